@@ -1,0 +1,71 @@
+-- States, as document 01 has them: empty, or one range for each of n variables.
+use mathlib.Core.Path.{_≡_, refl}
+use mathlib.Core.Bool.{Bool, true, false, cond, _&&_}
+use mathlib.Core.List.{List, [], _∷_}
+use Prim.Native.Nat.{ℕ, zero, suc, _+_, _≤_, _<_}
+use lib.ListN.{length, getD, set, replicate}
+use Rattle.ranges.specs.declared.Range.{Range}
+use Rattle.ranges.specs.declared.Range.the-variants.{Empty, Span}
+use Rattle.ranges.specs.Ranges as ranges
+use Rattle.states.specs.declared.State.{State}
+use Rattle.states.specs.declared.Cell.{Cell}
+
+abbrev pub cell : Range → Cell
+cell r = record { range = r }
+
+abbrev pub zeros : List Cell
+zeros = replicate 64 (cell (ranges.point 0))
+
+-- the empty state
+abbrev pub empty : State
+empty = record { live = false; cells = zeros }
+
+-- a state of these cells
+abbrev pub live : List Cell → State
+live cs = record { live = true; cells = cs }
+
+-- the range of a variable
+abbrev pub get : State → ℕ → Range
+get s v = getD (s .cells) v (cell (ranges.point 0)) .range
+
+-- a state of n variables: empty, or with a range for each that is not Empty; the other cells are as they were made
+pub record Fit (n : ℕ) (s : State) : Type 0 where
+  pub long : length (s .cells) ≡ 64
+  pub full : s .live ≡ true → (v : ℕ) → v < n → ranges.is-empty (get s v) ≡ false
+  pub rest : s .live ≡ true → (v : ℕ) → n ≤ v → get s v ≡ ranges.point 0
+
+-- a variable is given a range: Empty makes the state empty
+abbrev pub put-into : List Cell → ℕ → Range → State
+put-into cs v Empty = empty
+put-into cs v (Span a e) = live (set cs v (cell (Span a e)))
+
+-- an empty state stays as it is
+abbrev pub put : State → ℕ → Range → State
+put s v r = cond (s .live) (put-into (s .cells) v r) s
+
+-- two lists of cells, cell by cell, for the first n; the rest stay
+unfoldable pub each : (Range → Range → Range) → ℕ → List Cell → List Cell → List Cell
+each f zero cs ds = cs
+each f (suc n) [] ds = []
+each f (suc n) (c ∷ cs) [] = c ∷ cs
+each f (suc n) (c ∷ cs) (d ∷ ds) = cell (f (c .range) (d .range)) ∷ each f n cs ds
+
+-- a test of two lists of cells, cell by cell, for the first n
+unfoldable pub every : (Range → Range → Bool) → ℕ → List Cell → List Cell → Bool
+every f zero cs ds = true
+every f (suc n) [] ds = true
+every f (suc n) (c ∷ cs) [] = true
+every f (suc n) (c ∷ cs) (d ∷ ds) = f (c .range) (d .range) && every f n cs ds
+
+abbrev pub join : ℕ → State → State → State
+join n s t = cond (s .live) (cond (t .live) (live (each ranges.join n (s .cells) (t .cells))) s) t
+
+abbrev pub within : ℕ → State → State → Bool
+within n s t = cond (s .live) (cond (t .live) (every ranges.within n (s .cells) (t .cells)) false) true
+
+abbrev pub same : ℕ → State → State → Bool
+same n s t = cond (s .live) (cond (t .live) (every ranges.same n (s .cells) (t .cells)) false) (cond (t .live) false true)
+
+-- only for two states that are not empty
+abbrev pub widen : ℕ → State → State → State
+widen n s t = cond (s .live) (cond (t .live) (live (each ranges.widen n (s .cells) (t .cells))) s) s
