@@ -16,7 +16,7 @@ use Rattle.states.specs.States as states
 use Rattle.states.specs.States.{Fit}
 use Rattle.states.proofs.Fits.{fit-empty, fit-put, fit-join}
 use Rattle.paper.specs.Rules as rules
-use Rattle.paper.specs.Rules.{Answer}
+use Rattle.states.specs.Answers.{Answer}
 use Rattle.paper.specs.Runs.{Store, Holds, _∈_}
 use Rattle.paper.specs.Below.{BelowV}
 use Rattle.paper.proofs.Sure.{Sure, given, refused, sure-then, sure-elim, sure-map}

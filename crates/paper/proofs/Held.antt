@@ -13,7 +13,7 @@ use Rattle.ranges.proofs.Laws as L
 use Rattle.states.specs.declared.State.{State}
 use Rattle.states.specs.declared.Cell.{Cell}
 use Rattle.states.specs.States as states
-use Rattle.states.proofs.Cells.{at, each-at, every-at, set-at}
+use Rattle.states.proofs.Cells.{cell-at, at, each-at, every-at, set-at}
 use Rattle.states.specs.States.{Fit}
 use Rattle.states.proofs.Fits.{state}
 use Rattle.paper.specs.Runs.{Store, stored, _∈_, Holds}
@@ -50,9 +50,9 @@ module _ (n : ℕ) (small : n ≤ 64) where
   pub put-kept : (s : State) (v : ℕ) (r : Range) (σ : Store) → v < n → Fit n s → Holds n s σ → σ v ∈ r → Holds n (states.put s v r) σ
   put-kept s v r σ lt f h new = put-to s v r σ σ lt f h new (λ w _. refl)
 
-  each-held : (g : Range → Range → Range) (cs ds : List Cell) (σ : Store) → length cs ≡ 64 → length ds ≡ 64 →
-      ((v : ℕ) → v < n → σ v ∈ g (at cs v) (at ds v)) → Holds n (states.live (states.each g n cs ds)) σ
-  each-held g cs ds σ a b h = record { live = refl; each = λ v k. subst (λ (q : Range). σ v ∈ q) (sym (each-at g n v cs ds k (omega arith) (omega arith))) (h v k) }
+  each-held : (g : Cell → Cell → Cell) (cs ds : List Cell) (σ : Store) → length cs ≡ 64 → length ds ≡ 64 →
+      ((v : ℕ) → v < n → σ v ∈ g (cell-at cs v) (cell-at ds v) .range) → Holds n (states.live (states.each g n cs ds)) σ
+  each-held g cs ds σ a b h = record { live = refl; each = λ v k. subst (λ (q : Cell). σ v ∈ q .range) (sym (each-at g n v cs ds k (omega arith) (omega arith))) (h v k) }
 
   pub join-left : (s t : State) (σ : Store) → Fit n s → Fit n t → Holds n s σ → Holds n (states.join n s t) σ
   join-left s t σ f g h = go (s .live) (t .live) (s .cells) (t .cells) (f .long) (g .long) h
@@ -60,7 +60,7 @@ module _ (n : ℕ) (small : n ≤ 64) where
       go : (b c : Bool) (cs ds : List Cell) → length cs ≡ 64 → length ds ≡ 64 → Holds n (state b cs) σ → Holds n (states.join n (state b cs) (state c ds)) σ
       go false c cs ds f g h = absurd (false≢true (h .live))
       go true false cs ds f g h = h
-      go true true cs ds f g h = each-held ranges.join cs ds σ f g (λ v k. L.join-holds-left (at cs v) (at ds v) (σ v) (h .each v k))
+      go true true cs ds f g h = each-held states.join-cells cs ds σ f g (λ v k. L.join-holds-left (at cs v) (at ds v) (σ v) (h .each v k))
 
   pub join-right : (s t : State) (σ : Store) → Fit n s → Fit n t → Holds n t σ → Holds n (states.join n s t) σ
   join-right s t σ f g h = go (s .live) (t .live) (s .cells) (t .cells) (f .long) (g .long) h
@@ -68,7 +68,7 @@ module _ (n : ℕ) (small : n ≤ 64) where
       go : (b c : Bool) (cs ds : List Cell) → length cs ≡ 64 → length ds ≡ 64 → Holds n (state c ds) σ → Holds n (states.join n (state b cs) (state c ds)) σ
       go false c cs ds f g h = h
       go true false cs ds f g h = absurd (false≢true (h .live))
-      go true true cs ds f g h = each-held ranges.join cs ds σ f g (λ v k. L.join-holds-right (at cs v) (at ds v) (σ v) (h .each v k))
+      go true true cs ds f g h = each-held states.join-cells cs ds σ f g (λ v k. L.join-holds-right (at cs v) (at ds v) (σ v) (h .each v k))
 
   pub widen-held : (s t : State) (σ : Store) → Fit n s → Fit n t → Holds n s σ → Holds n (states.widen n s t) σ
   widen-held s t σ f g h = go (s .live) (t .live) (s .cells) (t .cells) (f .long) (g .long) h
@@ -76,7 +76,7 @@ module _ (n : ℕ) (small : n ≤ 64) where
       go : (b c : Bool) (cs ds : List Cell) → length cs ≡ 64 → length ds ≡ 64 → Holds n (state b cs) σ → Holds n (states.widen n (state b cs) (state c ds)) σ
       go false c cs ds f g h = h
       go true false cs ds f g h = h
-      go true true cs ds f g h = each-held ranges.widen cs ds σ f g (λ v k. L.widen-holds (at cs v) (at ds v) (σ v) (h .each v k))
+      go true true cs ds f g h = each-held states.widen-cells cs ds σ f g (λ v k. L.widen-holds (at cs v) (at ds v) (σ v) (h .each v k))
 
   pub within-held : (s t : State) (σ : Store) → Fit n s → Fit n t → states.within n s t ≡ true → Holds n s σ → Holds n t σ
   within-held s t σ f g w h = go (s .live) (t .live) (s .cells) (t .cells) (f .long) (g .long) w h
@@ -86,5 +86,5 @@ module _ (n : ℕ) (small : n ≤ 64) where
       go true false cs ds f g w h = absurd (false≢true w)
       go true true cs ds f g w h = record {
         live = refl;
-        each = λ v k. L.within-holds (at cs v) (at ds v) (σ v) (every-at ranges.within n v cs ds w k (omega arith) (omega arith)) (h .each v k);
+        each = λ v k. L.within-holds (at cs v) (at ds v) (σ v) (every-at states.within-cells n v cs ds w k (omega arith) (omega arith)) (h .each v k);
       }

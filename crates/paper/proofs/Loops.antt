@@ -11,7 +11,8 @@ use Rattle.states.specs.States as states
 use Rattle.states.specs.States.{Fit}
 use Rattle.states.proofs.Fits.{fit-empty, fit-join, fit-widen, same-live, same-dead, within-self, within-dead, left-of, left-bound, widen-falls, widen-live, join-dead}
 use Rattle.paper.specs.Rules as rules
-use Rattle.paper.specs.Rules.{Answer, Gives, Pass, Found, AtPass, Nowhere, Settling, Looped}
+use Rattle.states.specs.Answers.{Answer, Gives}
+use Rattle.paper.specs.Rules.{Pass, Found, AtPass, Nowhere, Settling, Looped}
 use Rattle.paper.specs.Runs.{Store, Holds}
 use Rattle.paper.specs.Promises.{LoopOk}
 use Rattle.paper.proofs.Sure.{Sure, given, sure-then, sure-by, sure-elim, sure-map, sure-of, sure-eq, sure-both}

@@ -7,7 +7,8 @@ use native.Mathlib.Nat.{mul-comm}
 use lib.ListN.{length}
 use Rattle.ranges.specs.declared.Range.{Range}
 use Rattle.ranges.specs.Ranges as ranges
-use Rattle.ranges.specs.Ranges.{Bounded, Is, Over}
+use Rattle.ranges.specs.declared.Bounded.{Bounded}
+use Rattle.ranges.specs.declared.Bounded.the-variants.{Is, Over}
 use Rattle.ranges.proofs.Laws as L
 use Rattle.states.specs.declared.State.{State}
 use Rattle.states.specs.States as states
@@ -17,7 +18,8 @@ use Rattle.paper.specs.Tree.{Draw, Event, Addend, Nought, Times, Unroll}
 use Rattle.paper.specs.Tree.{Statement, Sample, Assign, Decrement, IfThenElse, While, Fail, Normalize, Statements, done, _then_}
 use Rattle.paper.specs.Code as code
 use Rattle.paper.specs.Rules as rules
-use Rattle.paper.specs.Rules.{Answer, Gives, Setting, Sides, Looped}
+use Rattle.states.specs.Answers.{Answer, Gives}
+use Rattle.paper.specs.Rules.{Setting, Sides, Looped}
 use Rattle.paper.specs.Runs.{Store, worth, _∈_, True, False, Run, sampled, assigned, decremented, went-then, went-else, left, normalized, Runs, ended, went-on, Turned, at-head, once-more, Holds}
 use Rattle.paper.specs.Below.{BelowA, BelowS, Below}
 use Rattle.paper.specs.Promises.{LoopOk}

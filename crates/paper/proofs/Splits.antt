@@ -6,7 +6,8 @@ use mathlib.Core.Logic.{_⊎_, inl, inr}
 use Prim.Native.Nat.{ℕ, _+_, _≤_, _<_}
 use lib.ListN.{length}
 use Rattle.ranges.specs.Ranges as ranges
-use Rattle.ranges.specs.Ranges.{Bounded, Is, Over}
+use Rattle.ranges.specs.declared.Bounded.{Bounded}
+use Rattle.ranges.specs.declared.Bounded.the-variants.{Is, Over}
 use Rattle.ranges.proofs.Laws as L
 use Rattle.states.specs.declared.State.{State}
 use Rattle.states.specs.States as states

@@ -1,6 +1,6 @@
 -- The starting state is well formed, and holds the stores of the caller's ranges.
 use mathlib.Core.Path.{_≡_, refl, sym, ap, _∙_, subst}
-use mathlib.Core.Bool.{true, false, false≢true}
+use mathlib.Core.Bool.{Bool, true, false, cond, false≢true}
 use mathlib.Core.List.{List, [], _∷_, _++_}
 use Prim.Native.Nat.{ℕ, zero, suc, _+_, _-_, _≤_, _<_}
 use native.Mathlib.Omega.{arith}
@@ -15,34 +15,35 @@ use Rattle.ranges.proofs.Laws as L
 use Rattle.states.specs.declared.State.{State}
 use Rattle.states.specs.declared.Cell.{Cell}
 use Rattle.states.specs.States as states
+use Rattle.states.specs.Starts as starts
 use Rattle.states.proofs.Cells.{at}
 use Rattle.states.specs.States.{Fit}
 use Rattle.states.proofs.Fits.{fit-empty}
 use Rattle.paper.specs.Runs.{Store, Holds}
 use Rattle.paper.specs.Answers as answers
-use Rattle.paper.proofs.Sure.{Sure, given, refused, sure-then, sure-elim, sure-map}
+use Rattle.paper.proofs.Sure.{Sure, given, refused, sure-elim, sure-map}
 
--- the state of all the cells, none of the first m of cs being Empty; or the empty state, one being so
-data Begun (all : List Cell) (m : ℕ) (cs : List Cell) : State → Type 0 where
-  begun : ((i : ℕ) → i < m → ranges.is-empty (at cs i) ≡ false) → Begun all m cs (states.live all)
-  empty : (i : ℕ) → i < m → ranges.is-empty (at cs i) ≡ true → Begun all m cs states.empty
+-- what comes of s by the first m of cs: s itself, none of them being Empty; or the empty state, one being so
+data Begun (s : State) (m : ℕ) (cs : List Cell) : State → Type 0 where
+  begun : ((i : ℕ) → i < m → ranges.is-empty (at cs i) ≡ false) → Begun s m cs s
+  empty : (i : ℕ) → i < m → ranges.is-empty (at cs i) ≡ true → Begun s m cs states.empty
 
-one-more : {all : List Cell} {m : ℕ} {cs : List Cell} (c : Cell) (s : State) → ranges.is-empty (c .range) ≡ false → Begun all m cs s → Begun all (suc m) (c ∷ cs) s
-one-more {all} {m} {cs} c s h (begun f) = begun (both f)
+one-more : (s : State) (m : ℕ) (c : Cell) (cs : List Cell) (b : Bool) → ranges.is-empty (c .range) ≡ b → (t : State) → Begun (cond b states.empty s) m cs t → Begun s (suc m) (c ∷ cs) t
+one-more s m c cs true q t (begun f) = empty 0 (omega arith) q
+one-more s m c cs true q t (empty i k e) = empty (suc i) (omega arith) e
+one-more s m c cs false q t (begun f) = begun (both f)
   where
     both : ((i : ℕ) → i < m → ranges.is-empty (at cs i) ≡ false) → (i : ℕ) → i < suc m → ranges.is-empty (at (c ∷ cs) i) ≡ false
-    both f zero k = h
+    both f zero k = q
     both f (suc i) k = f i (omega arith)
-one-more c s h (empty i k q) = empty (suc i) (omega arith) q
+one-more s m c cs false q t (empty i k e) = empty (suc i) (omega arith) e
 
-started-ok : (m : ℕ) (all : List Cell) (v : ℕ) (cs : List Cell) → Sure (Begun all m cs) (answers.started m all v cs)
-unfolding answers.started
-started-ok zero all v cs = given (begun (λ i k. absurd (omega arith)))
-started-ok (suc m) all v [] = given (begun (λ i k. refl))
-started-ok (suc m) all v (c ∷ cs) = sure-elim (answers.crossed (c .range)) (λ _. refused) (λ _.
-    sure-then (started-ok m all (v + 1) cs) (λ s B. sure-elim (ranges.is-empty (c .range))
-    (λ t. given (empty 0 (omega arith) t))
-    (λ t. given (one-more c s t B))))
+starting-ok : (m v : ℕ) (cs : List Cell) (s : State) → Sure (Begun s m cs) (starts.starting m v cs s)
+unfolding starts.starting
+starting-ok zero v cs s = given (begun (λ i k. absurd (omega arith)))
+starting-ok (suc m) v [] s = given (begun (λ i k. refl))
+starting-ok (suc m) v (c ∷ cs) s = sure-elim (starts.crossed (c .range)) (λ _. refused) (λ _.
+    sure-map (starting-ok m (v + 1) cs (cond (ranges.is-empty (c .range)) states.empty s)) (one-more s m c cs (ranges.is-empty (c .range)) refl))
 
 same-all : (m i : ℕ) (a : Cell) → getD (replicate m a) i a ≡ a
 same-all zero i a = refl
@@ -51,7 +52,7 @@ same-all (suc m) (suc i) a = same-all m i a
 
 module _ (n : ℕ) (small : n ≤ 64) (cs : List Cell) (enough : n ≤ length cs) where
   abbrev all : List Cell
-  all = take n cs ++ replicate (64 - n) (states.cell (ranges.point 0))
+  all = starts.first-cells n cs
 
   front : length (take n cs) ≡ n
   front = rw length-take (omega arith)
@@ -68,7 +69,7 @@ module _ (n : ℕ) (small : n ≤ 64) (cs : List Cell) (enough : n ≤ length cs
       ∙ getD-append-add (take n cs) (replicate (64 - n) (states.cell (ranges.point 0))) (v - n) (states.cell (ranges.point 0))
       ∙ same-all (64 - n) (v - n) (states.cell (ranges.point 0)))
 
-  begun-fit : (s : State) → Begun all n cs s → Fit n s
+  begun-fit : (s : State) → Begun (states.live all) n cs s → Fit n s
   begun-fit s (begun f) = record {
     long = all-long;
     full = λ _ v h. subst (λ (r : Range). ranges.is-empty r ≡ false) (sym (all-first v h)) (f v h);
@@ -76,7 +77,7 @@ module _ (n : ℕ) (small : n ≤ 64) (cs : List Cell) (enough : n ≤ length cs
   }
   begun-fit s (empty i h q) = fit-empty n
 
-  begun-holds : (s : State) → Begun all n cs s → (σ : Store) → Holds n (states.live cs) σ → Holds n s σ
+  begun-holds : (s : State) → Begun (states.live all) n cs s → (σ : Store) → Holds n (states.live cs) σ → Holds n s σ
   begun-holds s (begun f) σ h = record { live = refl; each = λ v k. subst (λ (r : Range). ranges.holds r (σ v) ≡ true) (sym (all-first v k)) (h .each v k) }
   begun-holds s (empty i k q) σ h = absurd (false≢true (sym (L.holds-filled (at cs i) (σ i) (h .each i k)) ∙ q))
 
@@ -86,12 +87,17 @@ pub record Admitted (n : ℕ) (cs : List Cell) (s : State) : Type 0 where
   pub fit : Fit n s
   pub held : (σ : Store) → Holds n (states.live cs) σ → Holds n s σ
 
+started-ok : (n : ℕ) (cs : List Cell) → length cs ≡ 64 → Sure (Admitted n cs) (starts.started n cs)
+unfolding starts.started
+started-ok n cs long =
+    sure-elim (ltb 64 n) (λ _. refused) (λ t.
+    sure-map (starting-ok n 0 cs (states.live (starts.first-cells n cs))) (λ s B.
+    let small : n ≤ 64 = ltb-false 64 n t in
+    let enough : n ≤ length cs = omega arith in
+    record { small = small; fit = begun-fit n small cs enough s B; held = begun-holds n small cs enough s B }))
+
 pub admitted-ok : (ws : List ℕ) (n u : ℕ) (cs : List Cell) → length cs ≡ 64 → Sure (Admitted n cs) (answers.admitted ws n u cs)
 admitted-ok ws n u cs long =
     sure-elim (ltb 8192 (length ws)) (λ _. refused) (λ _.
-    sure-elim (ltb 64 n) (λ _. refused) (λ t.
-    sure-elim (ltb 10000 u) (λ _. refused) (λ _.
-    sure-map (started-ok n (take n cs ++ replicate (64 - n) (states.cell (ranges.point 0))) 0 cs) (λ s B.
-    let small : n ≤ 64 = ltb-false 64 n t in
-    let enough : n ≤ length cs = omega arith in
-    record { small = small; fit = begun-fit n small cs enough s B; held = begun-holds n small cs enough s B }))))
+    sure-elim (ltb 64 n) (λ _. refused) (λ _.
+    sure-elim (ltb 10000 u) (λ _. refused) (λ _. started-ok n cs long)))

@@ -11,7 +11,8 @@ use Rattle.states.proofs.Fits.{fit-put, fit-join, fit-widen}
 use Rattle.paper.specs.Tree.{Statement, Sample, Assign, Decrement, IfThenElse, While, Fail, Normalize, Statements, done, _then_}
 use Rattle.paper.specs.Code as code
 use Rattle.paper.specs.Rules as rules
-use Rattle.paper.specs.Rules.{Answer, Gives, Setting, Sides, Pass, Looped}
+use Rattle.states.specs.Answers.{Answer, Gives}
+use Rattle.paper.specs.Rules.{Setting, Sides, Pass, Looped}
 use Rattle.paper.specs.Runs.{Store, True, False, Runs, Turned}
 use Rattle.paper.specs.Below.{BelowV, BelowS, Below}
 use Rattle.paper.specs.Promises.{LoopOk, Head, first, next, joined, widened, Points, all-set, set-to, LoopsS, Loops}

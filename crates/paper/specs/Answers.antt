@@ -12,32 +12,17 @@ use Rattle.ranges.specs.Ranges as ranges
 use Rattle.states.specs.declared.State.{State}
 use Rattle.states.specs.declared.Cell.{Cell}
 use Rattle.states.specs.States as states
+use Rattle.states.specs.Starts as starts
 use Rattle.paper.specs.Code as code
 use Rattle.paper.specs.Reader as reader
 use Rattle.paper.specs.Reader.{Reading, Read, Bad}
 use Rattle.paper.specs.Rules as rules
-use Rattle.paper.specs.Rules.{Answer, Gives, Refuses, Setting, Looped, and-then}
+use Rattle.states.specs.Answers.{Answer, Gives, Refuses, and-then}
+use Rattle.paper.specs.Rules.{Setting, Looped}
 use Rattle.paper.specs.Tree.{Draw, Dirac, Bernoulli, BernoulliVarProb, BinomialVarTrials, Binomial, Categorical, NegBinomialVarSuccesses, NegBinomial, Geometric, Poisson, PoissonVarRate, Uniform}
 use Rattle.paper.specs.Tree.{Event, InSet, VarComparison, DataFromDist, Complement, Intersection, Events, none, _also_}
 use Rattle.paper.specs.Tree.{Addend, Nought, Times, Unroll, Default, Turns}
 use Rattle.paper.specs.Tree.{Statement, Sample, Assign, Decrement, IfThenElse, While, Fail, Normalize, Statements, done, _then_}
-
--- a range whose start is over its end
-abbrev pub crossed : Range → Bool
-crossed Empty = false
-crossed (Span a (At b)) = ltb b a
-crossed (Span a Open) = false
-
--- the starting state of the caller's first n ranges, the first of which is variable v
-unfoldable pub started : ℕ → List Cell → ℕ → List Cell → Answer State
-started zero all v cs = Gives (states.live all)
-started (suc n) all v [] = Gives (states.live all)
-started (suc n) all v (c ∷ cs) =
-    elim (crossed (c .range)) [
-      | true ↦ Refuses 7 v
-      | false ↦
-          and-then (started n all (v + 1) cs) (λ s. elim (ranges.is-empty (c .range)) [ true ↦ Gives states.empty | false ↦ Gives s ])
-    ]
 
 -- a limit passed by the list's length, n or the default unroll, and then the starting state
 abbrev pub admitted : List ℕ → ℕ → ℕ → List Cell → Answer State
@@ -50,8 +35,7 @@ admitted ws n u cs =
             | false ↦
                 elim (ltb 10000 u) [
                   | true ↦ Refuses 4 0
-                  | false ↦
-                      started n (take n cs ++ replicate (64 - n) (states.cell (ranges.point 0))) 0 cs
+                  | false ↦ starts.started n cs
                 ]
           ]
     ]

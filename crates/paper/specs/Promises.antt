@@ -14,7 +14,8 @@ use Rattle.paper.specs.Code as code
 use Rattle.paper.specs.Reader as reader
 use Rattle.paper.specs.Reader.{Read}
 use Rattle.paper.specs.Rules as rules
-use Rattle.paper.specs.Rules.{Answer, Gives, Setting, Sides, Pass, Looped}
+use Rattle.states.specs.Answers.{Answer, Gives}
+use Rattle.paper.specs.Rules.{Setting, Sides, Pass, Looped}
 use Rattle.paper.specs.Runs.{Store, False, Runs, Turned, Holds}
 use Rattle.paper.specs.Below.{BelowE, Below}
 use Rattle.paper.specs.Answers as answers

@@ -9,23 +9,16 @@ use Rattle.ranges.specs.declared.End.the-variants.{At, Open}
 use Rattle.ranges.specs.declared.Range.{Range}
 use Rattle.ranges.specs.declared.Range.the-variants.{Empty, Span}
 use Rattle.ranges.specs.Ranges as ranges
-use Rattle.ranges.specs.Ranges.{Bounded, Is, Over}
+use Rattle.ranges.specs.declared.Bounded.{Bounded}
+use Rattle.ranges.specs.declared.Bounded.the-variants.{Is, Over}
 use Rattle.states.specs.declared.State.{State}
+use Rattle.states.specs.Answers.{Answer, Gives, Refuses, and-then}
 use Rattle.states.specs.States as states
 use Rattle.paper.specs.Code as code
 use Rattle.paper.specs.Tree.{Draw, Dirac, Bernoulli, BernoulliVarProb, BinomialVarTrials, Binomial, Categorical, NegBinomialVarSuccesses, NegBinomial, Geometric, Poisson, PoissonVarRate, Uniform}
 use Rattle.paper.specs.Tree.{Event, InSet, VarComparison, DataFromDist, Complement, Intersection, Events, none, _also_}
 use Rattle.paper.specs.Tree.{Addend, Nought, Times, Unroll, Default, Turns}
 use Rattle.paper.specs.Tree.{Statement, Sample, Assign, Decrement, IfThenElse, While, Fail, Normalize, Statements, done, _then_}
-
--- an answer, or a refusal by number and place
-pub data Answer (A : Type 0) : Type 0 where
-  Gives : A → Answer A
-  Refuses : (number place : ℕ) → Answer A
-
-abbrev pub and-then : {A B : Type 0} → Answer A → (A → Answer B) → Answer B
-and-then (Gives a) f = f a
-and-then (Refuses k at) f = Refuses k at
 
 -- the caller's: how many variables, and the unroll number of a loop that has none
 pub record Setting : Type 0 where

@@ -8,14 +8,17 @@ use Rattle.ranges.specs.declared.End.the-variants.{At, Open}
 use Rattle.ranges.specs.declared.Range.{Range}
 use Rattle.ranges.specs.declared.Range.the-variants.{Empty, Span}
 use Rattle.ranges.specs.Ranges as ranges
-use Rattle.ranges.specs.Ranges.{Is, Over, top}
+use Rattle.ranges.specs.declared.Bounded.the-variants.{Is, Over}
+use Rattle.ranges.specs.Ranges.{top}
 use Rattle.states.specs.declared.State.{State}
 use Rattle.states.specs.declared.Cell.{Cell}
 use Rattle.states.specs.States as states
 use Rattle.paper.specs.Code as code
 use Rattle.paper.specs.Reader as reader
 use Rattle.paper.specs.Rules as rules
-use Rattle.paper.specs.Rules.{Answer, Gives, Refuses, Setting, Looped}
+use Rattle.states.specs.Answers.{Answer, Gives, Refuses}
+use Rattle.paper.specs.Rules.{Setting, Looped}
+use Rattle.states.specs.Starts as starts
 use Rattle.paper.specs.Answers as answers
 
 abbrev pub one : Range → List Cell
@@ -55,5 +58,5 @@ pub record Table : Type 0 where
   pub row13 : answers.looped flipping 2 (both (ranges.point 1) (ranges.point 0)) 0 ≡ Gives (record { exits = states.live (both (ranges.point 0) ranges.naturals); settled = states.live (both (Span 0 (At 1)) ranges.naturals); searched = 100; unrolls = 0; joined = 100; widened = 2 })
 
 pub table : Table
-unfolding answers.analysed answers.looped answers.started reader.program reader.statement reader.block reader.branch reader.while reader.normalize reader.given reader.sample reader.assign reader.decrement reader.unroll reader.addend reader.event reader.events reader.set reader.comparison reader.datum reader.draw reader.ratio reader.interval reader.flag reader.unless reader.word reader.many reader.by-kind reader.if-read reader.and-read rules.loop rules.search rules.unrolled rules.joining rules.widening rules.settle rules.statement rules.event code.event code.statement ranges.retain ranges.remove ranges.first-out ranges.has ranges.remove-end ranges.cut-end states.each states.every
+unfolding answers.analysed answers.looped starts.started starts.starting reader.program reader.statement reader.block reader.branch reader.while reader.normalize reader.given reader.sample reader.assign reader.decrement reader.unroll reader.addend reader.event reader.events reader.set reader.comparison reader.datum reader.draw reader.ratio reader.interval reader.flag reader.unless reader.word reader.many reader.by-kind reader.if-read reader.and-read rules.loop rules.search rules.unrolled rules.joining rules.widening rules.settle rules.statement rules.event code.event code.statement ranges.retain ranges.remove ranges.first-out ranges.has ranges.remove-end ranges.cut-end states.each states.every
 table = record { row1 = refl; row2 = refl; row3 = refl; row4 = refl; row5 = refl; row5′ = refl; row6 = refl; row7 = refl; row7′ = refl; row8 = refl; row9 = refl; row10 = refl; row11 = refl; row11′ = refl; row12 = refl; row13 = refl }

@@ -14,7 +14,8 @@ use Rattle.ranges.specs.declared.End.the-variants.{At, Open}
 use Rattle.ranges.specs.declared.Range.{Range}
 use Rattle.ranges.specs.declared.Range.the-variants.{Empty, Span}
 use Rattle.ranges.specs.Ranges as ranges
-use Rattle.ranges.specs.Ranges.{Bounded, Is, Over}
+use Rattle.ranges.specs.declared.Bounded.{Bounded}
+use Rattle.ranges.specs.declared.Bounded.the-variants.{Is, Over}
 
 -- ---- a value in a range, as a proposition
 

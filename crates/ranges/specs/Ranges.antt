@@ -7,6 +7,8 @@ use lib.Dec.{leb, ltb, eqb}
 use lib.ListN.{length}
 use Rattle.ranges.specs.declared.End.{End}
 use Rattle.ranges.specs.declared.End.the-variants.{At, Open}
+use Rattle.ranges.specs.declared.Bounded.{Bounded}
+use Rattle.ranges.specs.declared.Bounded.the-variants.{Is, Over}
 use Rattle.ranges.specs.declared.Range.{Range}
 use Rattle.ranges.specs.declared.Range.the-variants.{Empty, Span}
 
@@ -46,11 +48,6 @@ abbrev pub sum : Range → Range → Range
 sum Empty b = b
 sum (Span s e) Empty = Span s e
 sum (Span s e) (Span t f) = Span (min (s + t) top) (sum-ends e f)
-
--- what may overflow
-pub data Bounded : Type 0 where
-  Is : Range → Bounded
-  Over : Bounded
 
 -- product by a constant
 abbrev pub times-end : ℕ → End → ℕ → Bounded

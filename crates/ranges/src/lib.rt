@@ -15,6 +15,12 @@ pub enum Range {
     Span(u32, End),
 }
 
+// A range, or that a number passed 4294967295 on the way to it.
+pub enum Bounded {
+    Is(Range),
+    Over,
+}
+
 fn min(a: u32, b: u32) -> u32
     ensures { λ r. ⌜ r ≡ least a b ⌝ }
 {

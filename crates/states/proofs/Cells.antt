@@ -14,11 +14,14 @@ use Rattle.ranges.proofs.Laws as L
 use Rattle.states.specs.declared.Cell.{Cell}
 use Rattle.states.specs.States as states
 
--- the range at an index
-abbrev pub at : List Cell → ℕ → Range
-at cs v = getD cs v (states.cell (ranges.point 0)) .range
+-- the cell at an index, and its range
+abbrev pub cell-at : List Cell → ℕ → Cell
+cell-at cs v = getD cs v (states.cell (ranges.point 0))
 
-pub each-at : (f : Range → Range → Range) (n v : ℕ) (cs ds : List Cell) → v < n → n ≤ length cs → n ≤ length ds → at (states.each f n cs ds) v ≡ f (at cs v) (at ds v)
+abbrev pub at : List Cell → ℕ → Range
+at cs v = cell-at cs v .range
+
+pub each-at : (f : Cell → Cell → Cell) (n v : ℕ) (cs ds : List Cell) → v < n → n ≤ length cs → n ≤ length ds → cell-at (states.each f n cs ds) v ≡ f (cell-at cs v) (cell-at ds v)
 unfolding states.each
 each-at f zero v cs ds h a b = absurd (omega arith)
 each-at f (suc n) v [] ds h a b = absurd (omega arith)
@@ -26,7 +29,7 @@ each-at f (suc n) v (c ∷ cs) [] h a b = absurd (omega arith)
 each-at f (suc n) zero (c ∷ cs) (d ∷ ds) h a b = refl
 each-at f (suc n) (suc v) (c ∷ cs) (d ∷ ds) h a b = each-at f n v cs ds (omega arith) (omega arith) (omega arith)
 
-pub each-rest : (f : Range → Range → Range) (n v : ℕ) (cs ds : List Cell) → n ≤ v → at (states.each f n cs ds) v ≡ at cs v
+pub each-rest : (f : Cell → Cell → Cell) (n v : ℕ) (cs ds : List Cell) → n ≤ v → cell-at (states.each f n cs ds) v ≡ cell-at cs v
 unfolding states.each
 each-rest f zero v cs ds h = refl
 each-rest f (suc n) v [] ds h = refl
@@ -34,22 +37,22 @@ each-rest f (suc n) v (c ∷ cs) [] h = refl
 each-rest f (suc n) zero (c ∷ cs) (d ∷ ds) h = absurd (omega arith)
 each-rest f (suc n) (suc v) (c ∷ cs) (d ∷ ds) h = each-rest f n v cs ds (omega arith)
 
-pub each-length : (f : Range → Range → Range) (n : ℕ) (cs ds : List Cell) → length (states.each f n cs ds) ≡ length cs
+pub each-length : (f : Cell → Cell → Cell) (n : ℕ) (cs ds : List Cell) → length (states.each f n cs ds) ≡ length cs
 unfolding states.each
 each-length f zero cs ds = refl
 each-length f (suc n) [] ds = refl
 each-length f (suc n) (c ∷ cs) [] = refl
 each-length f (suc n) (c ∷ cs) (d ∷ ds) = ap suc (each-length f n cs ds)
 
-pub every-at : (f : Range → Range → Bool) (n v : ℕ) (cs ds : List Cell) → states.every f n cs ds ≡ true → v < n → n ≤ length cs → n ≤ length ds → f (at cs v) (at ds v) ≡ true
+pub every-at : (f : Cell → Cell → Bool) (n v : ℕ) (cs ds : List Cell) → states.every f n cs ds ≡ true → v < n → n ≤ length cs → n ≤ length ds → f (cell-at cs v) (cell-at ds v) ≡ true
 unfolding states.every
 every-at f zero v cs ds t h a b = absurd (omega arith)
 every-at f (suc n) v [] ds t h a b = absurd (omega arith)
 every-at f (suc n) v (c ∷ cs) [] t h a b = absurd (omega arith)
-every-at f (suc n) zero (c ∷ cs) (d ∷ ds) t h a b = L.left-of (f (c .range) (d .range)) (states.every f n cs ds) t
-every-at f (suc n) (suc v) (c ∷ cs) (d ∷ ds) t h a b = every-at f n v cs ds (L.right-of (f (c .range) (d .range)) (states.every f n cs ds) t) (omega arith) (omega arith) (omega arith)
+every-at f (suc n) zero (c ∷ cs) (d ∷ ds) t h a b = L.left-of (f c d) (states.every f n cs ds) t
+every-at f (suc n) (suc v) (c ∷ cs) (d ∷ ds) t h a b = every-at f n v cs ds (L.right-of (f c d) (states.every f n cs ds) t) (omega arith) (omega arith) (omega arith)
 
-pub every-make : (f : Range → Range → Bool) (n : ℕ) (cs ds : List Cell) → ((v : ℕ) → v < n → f (at cs v) (at ds v) ≡ true) → states.every f n cs ds ≡ true
+pub every-make : (f : Cell → Cell → Bool) (n : ℕ) (cs ds : List Cell) → ((v : ℕ) → v < n → f (cell-at cs v) (cell-at ds v) ≡ true) → states.every f n cs ds ≡ true
 unfolding states.every
 every-make f zero cs ds t = refl
 every-make f (suc n) [] ds t = refl
@@ -81,21 +84,21 @@ left-le zero cs = omega arith
 left-le (suc n) [] = omega arith
 left-le (suc n) (c ∷ cs) = omega (arith, L.weight-le (c .range), left-le n cs)
 
-pub widen-left-le : (n : ℕ) (cs ds : List Cell) → left n (states.each ranges.widen n cs ds) ≤ left n cs
+pub widen-left-le : (n : ℕ) (cs ds : List Cell) → left n (states.each states.widen-cells n cs ds) ≤ left n cs
 unfolding left states.each
 widen-left-le zero cs ds = omega arith
 widen-left-le (suc n) [] ds = omega arith
 widen-left-le (suc n) (c ∷ cs) [] = omega arith
 widen-left-le (suc n) (c ∷ cs) (d ∷ ds) = omega (arith, L.widen-le (c .range) (d .range), widen-left-le n cs ds)
 
-pub widen-left-lt : (n : ℕ) (cs ds : List Cell) → n ≤ length cs → ((v : ℕ) → v < n → ranges.is-empty (at cs v) ≡ false) → states.every ranges.within n ds cs ≡ false → left n (states.each ranges.widen n cs ds) < left n cs
+pub widen-left-lt : (n : ℕ) (cs ds : List Cell) → n ≤ length cs → ((v : ℕ) → v < n → ranges.is-empty (at cs v) ≡ false) → states.every states.within-cells n ds cs ≡ false → left n (states.each states.widen-cells n cs ds) < left n cs
 unfolding left states.each states.every
 widen-left-lt zero cs ds a full h = absurd (false≢true (sym h))
 widen-left-lt (suc n) [] ds a full h = absurd (omega arith)
 widen-left-lt (suc n) (c ∷ cs) [] a full h = absurd (false≢true (sym h))
 widen-left-lt (suc n) (c ∷ cs) (d ∷ ds) a full h = go (ranges.within (d .range) (c .range)) refl (widen-left-lt n cs ds (omega arith) (λ v k. full (suc v) (omega arith)))
   where
-    go : (b : Bool) → ranges.within (d .range) (c .range) ≡ b → (states.every ranges.within n ds cs ≡ false → left n (states.each ranges.widen n cs ds) < left n cs) →
-        left (suc n) (states.each ranges.widen (suc n) (c ∷ cs) (d ∷ ds)) < left (suc n) (c ∷ cs)
-    go true q more = omega (arith, L.widen-le (c .range) (d .range), more (sym (ap (λ (b : Bool). b && states.every ranges.within n ds cs) q) ∙ h))
+    go : (b : Bool) → ranges.within (d .range) (c .range) ≡ b → (states.every states.within-cells n ds cs ≡ false → left n (states.each states.widen-cells n cs ds) < left n cs) →
+        left (suc n) (states.each states.widen-cells (suc n) (c ∷ cs) (d ∷ ds)) < left (suc n) (c ∷ cs)
+    go true q more = omega (arith, L.widen-le (c .range) (d .range), more (sym (ap (λ (b : Bool). b && states.every states.within-cells n ds cs) q) ∙ h))
     go false q more = omega (arith, L.widen-lt (c .range) (d .range) (full 0 (omega arith)) q, widen-left-le n cs ds)

@@ -1,5 +1,5 @@
 -- States that are well formed for n variables, and that the operations keep them so.
-use mathlib.Core.Path.{_≡_, refl, sym, _∙_, subst}
+use mathlib.Core.Path.{_≡_, refl, sym, ap, _∙_, subst}
 use mathlib.Core.Bool.{Bool, true, false, cond, false≢true}
 use mathlib.Core.List.{List}
 use Prim.Native.Nat.{ℕ, _+_, _≤_, _<_}
@@ -15,7 +15,7 @@ use Rattle.states.specs.declared.State.{State}
 use Rattle.states.specs.declared.Cell.{Cell}
 use Rattle.states.specs.States as states
 use Rattle.states.specs.States.{Fit}
-use Rattle.states.proofs.Cells.{at, each-at, each-rest, each-length, every-at, every-make, set-at, cells-eq, left, left-le, widen-left-lt}
+use Rattle.states.proofs.Cells.{cell-at, at, each-at, each-rest, each-length, every-at, every-make, set-at, cells-eq, left, left-le, widen-left-lt}
 
 abbrev pub state : Bool → List Cell → State
 state b cs = record { live = b; cells = cs }
@@ -39,12 +39,12 @@ module _ (n : ℕ) (small : n ≤ 64) where
         rest = λ l w k. set-at (λ (q : Range). q ≡ ranges.point 0) cs v w (Span a e) (omega (arith, f .long)) (λ q. absurd (omega arith)) (λ _. f .rest refl w k);
       }
 
-  fit-each : (g : Range → Range → Range) (cs ds : List Cell) → ((a b : Range) → ranges.is-empty a ≡ false → ranges.is-empty (g a b) ≡ false) →
+  fit-each : (g : Cell → Cell → Cell) (cs ds : List Cell) → ((a b : Cell) → ranges.is-empty (a .range) ≡ false → ranges.is-empty (g a b .range) ≡ false) →
       Fit n (states.live cs) → length ds ≡ 64 → Fit n (states.live (states.each g n cs ds))
   fit-each g cs ds keeps f h = record {
     long = each-length g n cs ds ∙ f .long;
-    full = λ l v k. subst (λ (q : Range). ranges.is-empty q ≡ false) (sym (each-at g n v cs ds k (omega (arith, f .long)) (omega arith))) (keeps (at cs v) (at ds v) (f .full refl v k));
-    rest = λ l v k. each-rest g n v cs ds k ∙ f .rest refl v k;
+    full = λ l v k. subst (λ (q : Cell). ranges.is-empty (q .range) ≡ false) (sym (each-at g n v cs ds k (omega (arith, f .long)) (omega arith))) (keeps (cell-at cs v) (cell-at ds v) (f .full refl v k));
+    rest = λ l v k. ap (λ (c : Cell). c .range) (each-rest g n v cs ds k) ∙ f .rest refl v k;
   }
 
   pub fit-join : (s t : State) → Fit n s → Fit n t → Fit n (states.join n s t)
@@ -53,7 +53,7 @@ module _ (n : ℕ) (small : n ≤ 64) where
       go : (b c : Bool) (cs ds : List Cell) → Fit n (state b cs) → Fit n (state c ds) → Fit n (states.join n (state b cs) (state c ds))
       go false c cs ds f g = g
       go true false cs ds f g = f
-      go true true cs ds f g = fit-each ranges.join cs ds L.join-filled f (g .long)
+      go true true cs ds f g = fit-each states.join-cells cs ds (λ a b. L.join-filled (a .range) (b .range)) f (g .long)
 
   pub fit-widen : (s t : State) → Fit n s → Fit n t → Fit n (states.widen n s t)
   fit-widen s t f g = go (s .live) (t .live) (s .cells) (t .cells) f g
@@ -61,14 +61,14 @@ module _ (n : ℕ) (small : n ≤ 64) where
       go : (b c : Bool) (cs ds : List Cell) → Fit n (state b cs) → Fit n (state c ds) → Fit n (states.widen n (state b cs) (state c ds))
       go false c cs ds f g = f
       go true false cs ds f g = f
-      go true true cs ds f g = fit-each ranges.widen cs ds L.widen-filled f (g .long)
+      go true true cs ds f g = fit-each states.widen-cells cs ds (λ a b. L.widen-filled (a .range) (b .range)) f (g .long)
 
   -- two states that are the same over n variables, and not empty, are equal
   pub same-live : (s t : State) → Fit n s → Fit n t → s .live ≡ true → states.same n s t ≡ true → t ≡ s
   same-live s t f g = go (s .live) (t .live) (s .cells) (t .cells) f g
     where
-      at-each : (cs ds : List Cell) → Fit n (states.live cs) → Fit n (states.live ds) → states.every ranges.same n cs ds ≡ true → (b : Bool) (v : ℕ) → ltb v n ≡ b → at ds v ≡ at cs v
-      at-each cs ds f g h true v q = sym (L.same-eq (at cs v) (at ds v) (every-at ranges.same n v cs ds h (ltb-true v n q) (omega (arith, f .long)) (omega (arith, g .long))))
+      at-each : (cs ds : List Cell) → Fit n (states.live cs) → Fit n (states.live ds) → states.every states.same-cells n cs ds ≡ true → (b : Bool) (v : ℕ) → ltb v n ≡ b → at ds v ≡ at cs v
+      at-each cs ds f g h true v q = sym (L.same-eq (at cs v) (at ds v) (every-at states.same-cells n v cs ds h (ltb-true v n q) (omega (arith, f .long)) (omega (arith, g .long))))
       at-each cs ds f g h false v q = g .rest refl v (ltb-false v n q) ∙ sym (f .rest refl v (ltb-false v n q))
 
       go : (b c : Bool) (cs ds : List Cell) → Fit n (state b cs) → Fit n (state c ds) → b ≡ true → states.same n (state b cs) (state c ds) ≡ true → state c ds ≡ state b cs
@@ -81,7 +81,7 @@ module _ (n : ℕ) (small : n ≤ 64) where
     where
       go : (b : Bool) (cs : List Cell) → states.within n (state b cs) (state b cs) ≡ true
       go false cs = refl
-      go true cs = every-make ranges.within n cs cs (λ v h. L.within-self (at cs v))
+      go true cs = every-make states.within-cells n cs cs (λ v h. L.within-self (at cs v))
 
   pub within-dead : (s t : State) → s .live ≡ false → states.within n s t ≡ true
   within-dead s t h = rw h refl

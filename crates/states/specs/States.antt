@@ -43,29 +43,45 @@ put-into cs v (Span a e) = live (set cs v (cell (Span a e)))
 abbrev pub put : State → ℕ → Range → State
 put s v r = cond (s .live) (put-into (s .cells) v r) s
 
--- two lists of cells, cell by cell, for the first n; the rest stay
-unfoldable pub each : (Range → Range → Range) → ℕ → List Cell → List Cell → List Cell
+-- join, subset, equality and widening of what is known of one variable: those of its range
+abbrev pub join-cells : Cell → Cell → Cell
+join-cells c d = cell (ranges.join (c .range) (d .range))
+
+abbrev pub within-cells : Cell → Cell → Bool
+within-cells c d = ranges.within (c .range) (d .range)
+
+abbrev pub same-cells : Cell → Cell → Bool
+same-cells c d = ranges.same (c .range) (d .range)
+
+abbrev pub widen-cells : Cell → Cell → Cell
+widen-cells c d = cell (ranges.widen (c .range) (d .range))
+
+-- variable by variable, for the first n; the other cells stay
+unfoldable pub each : (Cell → Cell → Cell) → ℕ → List Cell → List Cell → List Cell
 each f zero cs ds = cs
 each f (suc n) [] ds = []
 each f (suc n) (c ∷ cs) [] = c ∷ cs
-each f (suc n) (c ∷ cs) (d ∷ ds) = cell (f (c .range) (d .range)) ∷ each f n cs ds
+each f (suc n) (c ∷ cs) (d ∷ ds) = f c d ∷ each f n cs ds
 
--- a test of two lists of cells, cell by cell, for the first n
-unfoldable pub every : (Range → Range → Bool) → ℕ → List Cell → List Cell → Bool
+-- a test of the first n, variable by variable
+unfoldable pub every : (Cell → Cell → Bool) → ℕ → List Cell → List Cell → Bool
 every f zero cs ds = true
 every f (suc n) [] ds = true
 every f (suc n) (c ∷ cs) [] = true
-every f (suc n) (c ∷ cs) (d ∷ ds) = f (c .range) (d .range) && every f n cs ds
+every f (suc n) (c ∷ cs) (d ∷ ds) = f c d && every f n cs ds
 
+-- join: an empty state with s gives s
 abbrev pub join : ℕ → State → State → State
-join n s t = cond (s .live) (cond (t .live) (live (each ranges.join n (s .cells) (t .cells))) s) t
+join n s t = cond (s .live) (cond (t .live) (live (each join-cells n (s .cells) (t .cells))) s) t
 
+-- s lies within t: an empty state lies within any, and within an empty one no other does
 abbrev pub within : ℕ → State → State → Bool
-within n s t = cond (s .live) (cond (t .live) (every ranges.within n (s .cells) (t .cells)) false) true
+within n s t = cond (s .live) (cond (t .live) (every within-cells n (s .cells) (t .cells)) false) true
 
+-- s equals t
 abbrev pub same : ℕ → State → State → Bool
-same n s t = cond (s .live) (cond (t .live) (every ranges.same n (s .cells) (t .cells)) false) (cond (t .live) false true)
+same n s t = cond (s .live) (cond (t .live) (every same-cells n (s .cells) (t .cells)) false) (cond (t .live) false true)
 
--- only for two states that are not empty
+-- s widened by t, both not empty where the loop's rule comes to it; otherwise s
 abbrev pub widen : ℕ → State → State → State
-widen n s t = cond (s .live) (cond (t .live) (live (each ranges.widen n (s .cells) (t .cells))) s) s
+widen n s t = cond (s .live) (cond (t .live) (live (each widen-cells n (s .cells) (t .cells))) s) s
