@@ -1,7 +1,7 @@
 use Rattle.words.proofs.Laws.{stop, on-word, last, event-stop, event-deep, event-kind, event-no-kind, Other, above, many-off, raised, raised-none, raised-off, rises, rises-none}
 use Rattle.paper.specs.Tree.{none, _also_}
 use Rattle.paper.specs.Reader as reader
-use Rattle.paper.specs.Answers as answers
+use Rattle.paper.specs.Used.{used-event, used-events}
 use Rattle.words.specs.Words.{seen}
 use Prim.Native.Nat.{suc, _+_, _-_, _*_}
 use mathlib.Core.Path.{_≡_, refl, ap, sym, _∙_}

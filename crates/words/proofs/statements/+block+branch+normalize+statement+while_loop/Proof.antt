@@ -2,7 +2,7 @@ use Rattle.words.proofs.Laws.{stop, on-word, off, on, last, statement-s
 use borrow.Author.Tests.{eq-eqb, ne-eqb}
 use Rattle.paper.specs.Tree.{done, _then_}
 use Rattle.paper.specs.Reader as reader
-use Rattle.paper.specs.Answers as answers
+use Rattle.paper.specs.Used.{used, used-statement}
 use Rattle.words.specs.Words.{seen}
 use Prim.Native.Nat.{suc, _+_, _-_, _*_}
 use mathlib.Core.Path.{_≡_, refl, ap, sym, _∙_}
