@@ -1,0 +1,5 @@
+-- How the code follows the rules and the trace.
+pub mod Says
+pub mod Steps
+pub mod Turns
+pub mod Given

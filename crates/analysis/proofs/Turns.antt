@@ -1,0 +1,303 @@
+-- One law for each way that the code of a loop's passes and stages goes.
+use mathlib.Core.Path.{_≡_, refl, sym, ap, _∙_}
+use mathlib.Core.Bool.{Bool, true, false}
+use mathlib.Core.List.{List, [], _∷_, _++_, append-nil}
+use Prim.Native.Nat.{ℕ, zero, suc, _+_, _-_}
+use native.Mathlib.Omega.{arith}
+use Rattle.states.specs.declared.State.{State}
+use Rattle.states.specs.declared.Verdict.the-variants.{Good, Refused}
+use Rattle.states.specs.declared.Answer as code-answer
+use Rattle.states.specs.Answers.{Answer, Gives, Refuses, answered, and-then}
+use Rattle.states.specs.States as states
+use Rattle.paper.specs.Code as code
+use Rattle.paper.specs.Rules as rules
+use Rattle.paper.specs.Rules.{Setting}
+use Rattle.paper.specs.Trace as trace
+use Rattle.paper.specs.Tree.{Unroll, Event, Statement, While, Statements}
+use Rattle.analysis.specs.declared.Pass.{Pass}
+use Rattle.analysis.specs.declared.Found.{Found}
+use Rattle.analysis.specs.declared.Found.the-variants.{At, Nowhere, Refused as Stopped}
+use Rattle.analysis.specs.declared.Settling.{Settling}
+use Rattle.analysis.specs.declared.Settled.{Settled}
+use Rattle.analysis.specs.declared.LoopAnswer.{LoopAnswer}
+use Rattle.analysis.specs.Loops.{unrolls-by, searched-by}
+use Rattle.analysis.specs.Outcomes.{passed, found-by, grown, settled-on, looped}
+use Rattle.analysis.specs.Noted as noted
+use Rattle.analysis.specs.Noted.{Noted, plain, then-noted, from, ending, Says}
+use Rattle.analysis.proofs.Says.{Leads, leads-self, leads-then, leads-by, says-plain, from-good, from-refused, then-good, then-refused, then-stopped, ending-good, ending-refused, ending-stopped}
+use Rattle.analysis.proofs.Says.{answered-good, answered-refused, passed-good, passed-refused, grown-good, grown-refused, settled-good, settled-refused, looped-good, looped-refused}
+
+-- ---- what the search found
+
+found-refused : (a : Answer rules.Found) {o : Found} {number place : ℕ} → o ≡ found-by a → o ≡ Stopped number place → a ≡ Refuses number place
+unfolding found-by
+found-refused (Gives (rules.AtPass i)) e v = cc
+found-refused (Gives rules.Nowhere) e v = cc
+found-refused (Refuses number place) e v = cc
+
+-- the search was not refused, and what it found leads to the code's counts
+pub record Finds (a : Answer rules.Found) (o : Found) : Type 0 where
+  pub found : rules.Found
+  pub gives : a ≡ Gives found
+  pub searched : searched-by o ≡ rules.search-passes found
+  pub unrolls : (u : ℕ) → unrolls-by u o ≡ rules.unroll-passes u found
+
+pub finds-at : (a : Answer rules.Found) {o : Found} {i : ℕ} → o ≡ found-by a → o ≡ At i → Finds a o
+unfolding found-by
+finds-at (Gives (rules.AtPass j)) e v = record { found = rules.AtPass j; gives = refl; searched = rw e; unrolls = λ u. rw e }
+finds-at (Gives rules.Nowhere) e v = record { found = rules.Nowhere; gives = refl; searched = rw e; unrolls = λ u. rw e }
+finds-at (Refuses number place) e v = absurd (let z : _≡_ {A = ℕ} 0 1 = cc in omega arith)
+
+pub finds-nowhere : (a : Answer rules.Found) {o : Found} → o ≡ found-by a → o ≡ Nowhere → Finds a o
+unfolding found-by
+finds-nowhere (Gives (rules.AtPass j)) e v = record { found = rules.AtPass j; gives = refl; searched = rw e; unrolls = λ u. rw e }
+finds-nowhere (Gives rules.Nowhere) e v = record { found = rules.Nowhere; gives = refl; searched = rw e; unrolls = λ u. rw e }
+finds-nowhere (Refuses number place) e v = absurd (let z : _≡_ {A = ℕ} 0 1 = cc in omega arith)
+
+module _ (g : Setting) (at : ℕ) (e : Event) (b : Statements) where
+  -- ---- a pass: its event, its body
+
+  abbrev body-of : rules.Sides → Noted rules.Pass
+  body-of t = ending (noted.block g (code.body-at at e) b (t .yes)) (λ x. Gives (record { next = x; exit = t .no }))
+
+  pub pass-split : (s : State) (m : List ℕ) {t : rules.Sides} → rules.event g (at + 3) e s ≡ Gives t → Leads passed (noted.pass g at e b s) m (body-of t) m
+  pass-split s m q = from-good passed (rules.event g (at + 3) e s) body-of m q
+
+  pub pass-refused : (s : State) (m : List ℕ) {number place : ℕ} → rules.event g (at + 3) e s ≡ Refuses number place → Says passed (noted.pass g at e b s) (passed (Refuses number place)) m m
+  pass-refused s m q = from-refused passed (rules.event g (at + 3) e s) body-of m q
+
+  module _ (t : rules.Sides) {r : code-answer.Answer} {m m₁ : List ℕ} (q : Says answered (noted.block g (code.body-at at e) b (t .yes)) r m m₁) where
+    abbrev closed : State → Answer rules.Pass
+    closed x = Gives (record { next = x; exit = t .no })
+
+    pub body-on : r .verdict ≡ Good → Says passed (body-of t) (passed (closed (r .state))) m m₁
+    body-on v = ending-good answered passed (noted.block g (code.body-at at e) b (t .yes)) r m m₁ q closed (answered-good (rules.list g (code.body-at at e + 1) b (t .yes)) (q .out) v)
+
+    pub body-refused : {number place : ℕ} → r .verdict ≡ Refused number place → Says passed (body-of t) (passed (Refuses number place)) m m₁
+    body-refused v = ending-refused answered passed (noted.block g (code.body-at at e) b (t .yes)) r m m₁ q closed (answered-refused (rules.list g (code.body-at at e + 1) b (t .yes)) (q .out) v)
+
+  -- ---- the stages, one pass further: `left` passes are left, `rest` after this one
+
+  -- after a pass of the search, by whether the new state equals the old
+  abbrev searched : ℕ → ℕ → rules.Pass → Bool → Noted rules.Found
+  searched rest i p c = record {
+    answer = elim c [ true ↦ Gives (rules.AtPass i) | false ↦ noted.search g at e b rest (i + 1) (p .next) .answer ];
+    places = elim c [ true ↦ [] | false ↦ noted.search g at e b rest (i + 1) (p .next) .places ];
+  }
+
+  -- after an unrolled pass
+  abbrev turned : ℕ → State → rules.Pass → Noted rules.Pass
+  turned rest exits p = noted.unrolled g at e b rest (record { next = p .next; exit = states.join (g .n) exits (p .exit) })
+
+  -- after a pass by which the state s may grow, by whether the new state lies within it
+  abbrev grows : (State → State → State) → ℕ → ℕ → State → rules.Pass → Bool → Noted rules.Settling
+  grows grow rest i s p c = record {
+    answer = elim c [ true ↦ Gives (record { settled = true; at = s; passes = i + 1 }) | false ↦ noted.growing g at e b grow rest (i + 1) (grow s (p .next)) .answer ];
+    places = elim c [ true ↦ [] | false ↦ noted.growing g at e b grow rest (i + 1) (grow s (p .next)) .places ];
+  }
+
+  module _ (left rest : ℕ) (one-more : left ≡ suc rest) (s : State) {r : Pass} {m m₁ : List ℕ} (q : Says passed (noted.pass g at e b s) r m m₁) where
+    -- what the code's pass gave
+    abbrev was : rules.Pass
+    was = record { next = r .next; exit = r .exit }
+
+    gave : r .verdict ≡ Good → noted.pass-by g at e b s ≡ Gives was
+    gave v = passed-good (noted.pass-by g at e b s) (q .out) v
+
+    stopped : {number place : ℕ} → r .verdict ≡ Refused number place → noted.pass-by g at e b s ≡ Refuses number place
+    stopped v = passed-refused (noted.pass-by g at e b s) (q .out) v
+
+    module _ (i : ℕ) where
+      one-search : Leads found-by (noted.search g at e b left i s) m (then-noted (noted.pass g at e b s) (λ p. searched rest i p (states.same (g .n) s (p .next)))) m
+      unfolding rules.search trace.search
+      one-search = leads-by (ap (λ (k : ℕ). noted.search g at e b k i s) one-more)
+
+      after-search : (c : Bool) → r .verdict ≡ Good → states.same (g .n) s (r .next) ≡ c → Leads found-by (noted.search g at e b left i s) m (searched rest i was c) m₁
+      after-search c v w = leads-then one-search (leads-then
+          (then-good passed found-by (noted.pass g at e b s) r m m₁ q (λ p. searched rest i p (states.same (g .n) s (p .next))) (gave v))
+          (leads-by (ap (searched rest i was) w)))
+
+      pub search-refused : {number place : ℕ} → r .verdict ≡ Refused number place → Says found-by (noted.search g at e b left i s) (Stopped number place) m m₁
+      unfolding found-by
+      search-refused {number} {place} v = one-search .on (Stopped number place) m₁
+          (then-refused passed found-by (noted.pass g at e b s) r m m₁ q (λ p. searched rest i p (states.same (g .n) s (p .next))) (stopped v))
+
+      pub search-found : r .verdict ≡ Good → states.same (g .n) s (r .next) ≡ true → Says found-by (noted.search g at e b left i s) (At i) m m₁
+      unfolding found-by
+      search-found v w = after-search true v w .on (At i) m₁ (says-plain found-by (Gives (rules.AtPass i)) m₁)
+
+      pub search-on : r .verdict ≡ Good → states.same (g .n) s (r .next) ≡ false → Leads found-by (noted.search g at e b left i s) m (noted.search g at e b rest (i + 1) (r .next)) m₁
+      search-on v w = after-search false v w
+
+    module _ (exits : State) where
+      one-turn : Leads passed (noted.unrolled g at e b left (record { next = s; exit = exits })) m (then-noted (noted.pass g at e b s) (turned rest exits)) m
+      unfolding rules.unrolled trace.unrolled
+      one-turn = leads-by (ap (λ (k : ℕ). noted.unrolled g at e b k (record { next = s; exit = exits })) one-more)
+
+      pub unrolled-refused : {number place : ℕ} → r .verdict ≡ Refused number place → Says passed (noted.unrolled g at e b left (record { next = s; exit = exits })) r m m₁
+      unrolled-refused v = one-turn .on r m₁ (then-stopped passed (noted.pass g at e b s) r m m₁ q (turned rest exits) (stopped v))
+
+      pub unrolled-on : r .verdict ≡ Good → Leads passed (noted.unrolled g at e b left (record { next = s; exit = exits })) m (turned rest exits was) m₁
+      unrolled-on v = leads-then one-turn (then-good passed passed (noted.pass g at e b s) r m m₁ q (turned rest exits) (gave v))
+
+    module _ (grow : State → State → State) (i : ℕ) where
+      abbrev grown-by : rules.Pass → Noted rules.Settling
+      grown-by p = grows grow rest i s p (states.within (g .n) (p .next) s)
+
+      one-growth : Leads grown (noted.growing g at e b grow left i s) m (then-noted (noted.pass g at e b s) grown-by) m
+      unfolding rules.growing trace.growing
+      one-growth = leads-by (ap (λ (k : ℕ). noted.growing g at e b grow k i s) one-more)
+
+      after-growth : (c : Bool) → r .verdict ≡ Good → states.within (g .n) (r .next) s ≡ c → Leads grown (noted.growing g at e b grow left i s) m (grows grow rest i s was c) m₁
+      after-growth c v w = leads-then one-growth (leads-then (then-good passed grown (noted.pass g at e b s) r m m₁ q grown-by (gave v)) (leads-by (ap (grows grow rest i s was) w)))
+
+      pub growing-refused : {number place : ℕ} → r .verdict ≡ Refused number place → Says grown (noted.growing g at e b grow left i s) (grown (Refuses number place)) m m₁
+      growing-refused {number} {place} v = one-growth .on (grown (Refuses number place)) m₁ (then-refused passed grown (noted.pass g at e b s) r m m₁ q grown-by (stopped v))
+
+      pub growing-settled : r .verdict ≡ Good → states.within (g .n) (r .next) s ≡ true →
+          Says grown (noted.growing g at e b grow left i s) (grown (Gives (record { settled = true; at = s; passes = i + 1 }))) m m₁
+      growing-settled v w = after-growth true v w .on (grown (Gives (record { settled = true; at = s; passes = i + 1 }))) m₁ (says-plain grown (Gives (record { settled = true; at = s; passes = i + 1 })) m₁)
+
+      pub growing-on : r .verdict ≡ Good → states.within (g .n) (r .next) s ≡ false →
+          Leads grown (noted.growing g at e b grow left i s) m (noted.growing g at e b grow rest (i + 1) (grow s (r .next))) m₁
+      growing-on v w = after-growth false v w
+
+  -- ---- a stage with no pass left
+
+  pub search-none : (i : ℕ) (s : State) (m : List ℕ) → Says found-by (noted.search g at e b 0 i s) Nowhere m m
+  unfolding rules.search trace.search found-by
+  search-none i s m = says-plain found-by (Gives rules.Nowhere) m
+
+  pub unrolled-none : (t : rules.Pass) (m : List ℕ) → Says passed (noted.unrolled g at e b 0 t) (passed (Gives t)) m m
+  unfolding rules.unrolled trace.unrolled
+  unrolled-none t m = says-plain passed (Gives t) m
+
+  pub growing-none : (grow : State → State → State) (i : ℕ) (s : State) (m : List ℕ) → Says grown (noted.growing g at e b grow 0 i s) (grown (Gives (record { settled = false; at = s; passes = i }))) m m
+  unfolding rules.growing trace.growing
+  growing-none grow i s m = says-plain grown (Gives (record { settled = false; at = s; passes = i })) m
+
+  -- ---- joining, then widening
+
+  abbrev joined-by : State → ℕ → Noted rules.Settled
+  joined-by at-last passes = plain (Gives (record { at = at-last; joined = passes; widened = 0 }))
+
+  abbrev widened-by : ℕ → rules.Settling → Answer rules.Settled
+  widened-by passes w = Gives (record { at = w .at; joined = passes; widened = w .passes })
+
+  abbrev widens : State → ℕ → Noted rules.Settled
+  widens s passes = ending (noted.growing g at e b (states.widen (g .n)) (g .n + g .n + 1) 0 s) (widened-by passes)
+
+  -- after the joining stage, by whether it settled
+  abbrev joins : State → ℕ → Bool → Noted rules.Settled
+  joins s passes c = record {
+    answer = elim c [ true ↦ joined-by s passes .answer | false ↦ widens s passes .answer ];
+    places = elim c [ true ↦ joined-by s passes .places | false ↦ widens s passes .places ];
+  }
+
+  abbrev joins-on : rules.Settling → Noted rules.Settled
+  joins-on j = joins (j .at) (j .passes) (j .settled)
+
+  module _ (s : State) {r : Settling} {m m₁ : List ℕ} (q : Says grown (noted.growing g at e b (states.join (g .n)) 100 0 s) r m m₁) where
+    abbrev joining : Noted rules.Settling
+    joining = noted.growing g at e b (states.join (g .n)) 100 0 s
+
+    one-joining : Leads settled-on (noted.settle g at e b s) m (then-noted joining joins-on) m
+    unfolding rules.settle trace.settle
+    one-joining = leads-self
+
+    after-joining : (c : Bool) → r .verdict ≡ Good → r .settled ≡ c → Leads settled-on (noted.settle g at e b s) m (joins (r .state) (r .passes) c) m₁
+    after-joining c v w = leads-then one-joining (leads-then (then-good grown settled-on joining r m m₁ q joins-on (grown-good (joining .answer) (q .out) v)) (leads-by (ap (joins (r .state) (r .passes)) w)))
+
+    pub joining-refused : {number place : ℕ} → r .verdict ≡ Refused number place → Says settled-on (noted.settle g at e b s) (settled-on (Refuses number place)) m m₁
+    joining-refused {number} {place} v = one-joining .on (settled-on (Refuses number place)) m₁ (then-refused grown settled-on joining r m m₁ q joins-on (grown-refused (joining .answer) (q .out) v))
+
+    pub joining-settled : r .verdict ≡ Good → r .settled ≡ true → Says settled-on (noted.settle g at e b s) (settled-on (Gives (record { at = r .state; joined = r .passes; widened = 0 }))) m m₁
+    joining-settled v w = after-joining true v w .on (settled-on (joined-by (r .state) (r .passes) .answer)) m₁ (says-plain settled-on (joined-by (r .state) (r .passes) .answer) m₁)
+
+    pub joining-on : r .verdict ≡ Good → r .settled ≡ false → Leads settled-on (noted.settle g at e b s) m (widens (r .state) (r .passes)) m₁
+    joining-on v w = after-joining false v w
+
+  module _ (s : State) (passes : ℕ) {r : Settling} {m m₁ : List ℕ} (q : Says grown (noted.growing g at e b (states.widen (g .n)) (g .n + g .n + 1) 0 s) r m m₁) where
+    abbrev widening : Noted rules.Settling
+    widening = noted.growing g at e b (states.widen (g .n)) (g .n + g .n + 1) 0 s
+
+    pub widening-refused : {number place : ℕ} → r .verdict ≡ Refused number place → Says settled-on (widens s passes) (settled-on (Refuses number place)) m m₁
+    widening-refused v = ending-refused grown settled-on widening r m m₁ q (widened-by passes) (grown-refused (widening .answer) (q .out) v)
+
+    pub widening-on : r .verdict ≡ Good → Says settled-on (widens s passes) (settled-on (Gives (record { at = r .state; joined = passes; widened = r .passes }))) m m₁
+    widening-on v = ending-good grown settled-on widening r m m₁ q (widened-by passes) (grown-good (widening .answer) (q .out) v)
+
+  -- ---- the loop: search, unrolled passes, settling, exit
+
+  module _ (u : ℕ) (s : State) where
+    abbrev summary : rules.Found → rules.Pass → rules.Settled → State → rules.Looped
+    summary f t settled x = record {
+      exits = states.join (g .n) (t .exit) x;
+      turned = t .next;
+      settled = settled .at;
+      searched = rules.search-passes f;
+      unrolls = rules.unroll-passes u f;
+      joined = settled .joined;
+      widened = settled .widened;
+    }
+
+    abbrev finish : rules.Found → rules.Pass → rules.Settled → Answer rules.Looped
+    finish f t settled = and-then (noted.exit-by g at e b (settled .at)) (λ x. Gives (summary f t settled x))
+
+    abbrev settles : rules.Found → rules.Pass → Noted rules.Looped
+    settles f t = ending (noted.settle g at e b (t .next)) (finish f t)
+
+    abbrev turns-of : rules.Found → Noted rules.Pass
+    turns-of f = noted.unrolled g at e b (rules.unroll-passes u f) (record { next = s; exit = states.empty })
+
+    abbrev turns : rules.Found → Noted rules.Looped
+    turns f = then-noted (turns-of f) (settles f)
+
+    one-loop : (m : List ℕ) → Leads looped (noted.loop g at e b u s) m (then-noted (noted.search g at e b 100 0 s) turns) m
+    unfolding rules.loop trace.loop
+    one-loop m = leads-self
+
+    module _ {o : Found} {m m₁ : List ℕ} (q : Says found-by (noted.search g at e b 100 0 s) o m m₁) where
+      pub loop-unsearched : {number place : ℕ} → o ≡ Stopped number place → Says looped (noted.loop g at e b u s) (looped (Refuses number place)) m m₁
+      loop-unsearched {number} {place} v = one-loop m .on (looped (Refuses number place)) m₁
+          (then-refused found-by looped (noted.search g at e b 100 0 s) o m m₁ q turns (found-refused (noted.search g at e b 100 0 s .answer) (q .out) v))
+
+      pub loop-searched : (f : Finds (noted.search g at e b 100 0 s .answer) o) → Leads looped (noted.loop g at e b u s) m (turns (f .found)) m₁
+      loop-searched f = leads-then (one-loop m) (then-good found-by looped (noted.search g at e b 100 0 s) o m m₁ q turns (f .gives))
+
+    module _ (f : rules.Found) {r : Pass} {m m₁ : List ℕ} (q : Says passed (turns-of f) r m m₁) where
+      pub loop-unturned : {number place : ℕ} → r .verdict ≡ Refused number place → Says looped (turns f) (looped (Refuses number place)) m m₁
+      loop-unturned v = then-refused passed looped (turns-of f) r m m₁ q (settles f) (passed-refused (turns-of f .answer) (q .out) v)
+
+      pub loop-turned : r .verdict ≡ Good → Leads looped (turns f) m (settles f (record { next = r .next; exit = r .exit })) m₁
+      loop-turned v = then-good passed looped (turns-of f) r m m₁ q (settles f) (passed-good (turns-of f .answer) (q .out) v)
+
+    module _ (f : rules.Found) (t : rules.Pass) {r : Settled} {m m₁ : List ℕ} (q : Says settled-on (noted.settle g at e b (t .next)) r m m₁) where
+      abbrev last : rules.Settled
+      last = record { at = r .state; joined = r .joined; widened = r .widened }
+
+      pub loop-unsettled : {number place : ℕ} → r .verdict ≡ Refused number place → Says looped (settles f t) (looped (Refuses number place)) m m₁
+      loop-unsettled v = ending-refused settled-on looped (noted.settle g at e b (t .next)) r m m₁ q (finish f t) (settled-refused (noted.settle g at e b (t .next) .answer) (q .out) v)
+
+      loop-finish : r .verdict ≡ Good → Says looped (settles f t) (looped (finish f t last)) m m₁
+      loop-finish v = ending-good settled-on looped (noted.settle g at e b (t .next)) r m m₁ q (finish f t) (settled-good (noted.settle g at e b (t .next) .answer) (q .out) v)
+
+      -- by the settled state's exit
+      pub loop-left : {x : State} → r .verdict ≡ Good → noted.exit-by g at e b (r .state) ≡ Gives x → Says looped (settles f t) (looped (Gives (summary f t last x))) m m₁
+      loop-left v w = let h = loop-finish v in record { out = ap (λ a. looped (and-then a (λ x. Gives (summary f t last x)))) (sym w) ∙ h .out; marks = h .marks }
+
+      pub loop-unleft : {number place : ℕ} → r .verdict ≡ Good → noted.exit-by g at e b (r .state) ≡ Refuses number place → Says looped (settles f t) (looped (Refuses number place)) m m₁
+      loop-unleft v w = let h = loop-finish v in record { out = ap (λ a. looped (and-then a (λ x. Gives (summary f t last x)))) (sym w) ∙ h .out; marks = h .marks }
+
+  -- a loop as a statement gives its joined exits
+  module _ (u : Unroll) (s : State) {r : LoopAnswer} {m m₁ : List ℕ} (q : Says looped (noted.loop g at e b (rules.turns g u) s) r m m₁) where
+    pub while-on : r .verdict ≡ Good → Says answered (noted.statement g at (While u e b) s) (answered (Gives (r .exits))) m m₁
+    unfolding rules.statement trace.statement
+    while-on v =
+        let l = looped-good (noted.loop g at e b (rules.turns g u) s .answer) (q .out) v in
+        let h = ending-good looped answered (noted.loop g at e b (rules.turns g u) s) r m m₁ q (λ l. Gives (l .exits)) (l .1) in
+        record { out = ap (λ (x : State). answered (Gives x)) (sym (l .2)) ∙ h .out; marks = h .marks }
+
+    pub while-refused : {number place : ℕ} → r .verdict ≡ Refused number place → Says answered (noted.statement g at (While u e b) s) (answered (Refuses number place)) m m₁
+    unfolding rules.statement trace.statement
+    while-refused v = ending-refused looped answered (noted.loop g at e b (rules.turns g u) s) r m m₁ q (λ l. Gives (l .exits)) (looped-refused (noted.loop g at e b (rules.turns g u) s .answer) (q .out) v)

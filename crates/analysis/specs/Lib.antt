@@ -1,0 +1,4 @@
+pub mod Outcomes
+pub mod Noted
+pub mod Plain
+pub mod Loops
