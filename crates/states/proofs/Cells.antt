@@ -16,7 +16,7 @@ use Rattle.states.specs.States as states
 
 -- the cell at an index, and its range
 abbrev pub cell-at : List Cell → ℕ → Cell
-cell-at cs v = getD cs v (states.cell (ranges.point 0))
+cell-at cs v = getD cs v states.blank
 
 abbrev pub at : List Cell → ℕ → Range
 at cs v = cell-at cs v .range
@@ -64,12 +64,12 @@ pub set-at : (P : Range → Type 0) (cs : List Cell) (v w : ℕ) (r : Range) →
 set-at P cs v w r h one other = go (eqb w v) refl
   where
     go : (b : Bool) → eqb w v ≡ b → P (at (set cs v (states.cell r)) w)
-    go true q = subst (λ (k : ℕ). P (at (set cs v (states.cell r)) k)) (sym (eqb-true w v q)) (subst (λ (c : Cell). P (c .range)) (sym (getD-set-same cs v (states.cell r) (states.cell (ranges.point 0)) h)) (one (eqb-true w v q)))
-    go false q = subst (λ (c : Cell). P (c .range)) (sym (getD-set-other cs v w (states.cell r) (states.cell (ranges.point 0)) (eqb-false w v q))) (other (eqb-false w v q))
+    go true q = subst (λ (k : ℕ). P (at (set cs v (states.cell r)) k)) (sym (eqb-true w v q)) (subst (λ (c : Cell). P (c .range)) (sym (getD-set-same cs v (states.cell r) states.blank h)) (one (eqb-true w v q)))
+    go false q = subst (λ (c : Cell). P (c .range)) (sym (getD-set-other cs v w (states.cell r) states.blank (eqb-false w v q))) (other (eqb-false w v q))
 
 -- lists of cells with the same ranges
 pub cells-eq : (cs ds : List Cell) → length cs ≡ length ds → ((v : ℕ) → at cs v ≡ at ds v) → cs ≡ ds
-cells-eq cs ds h e = ext-getD (states.cell (ranges.point 0)) cs ds h (λ v _. λ i. states.cell (e v i))
+cells-eq cs ds h e = ext-getD states.blank cs ds h (λ v _. λ i. states.cell (e v i))
 
 -- ---- what is left to widen
 

@@ -32,7 +32,7 @@ starting (suc k) v (c ∷ cs) s =
 
 -- the first n of the caller's cells; those from n on are [0,0] whatever the caller has there
 abbrev pub first-cells : ℕ → List Cell → List Cell
-first-cells n cs = take n cs ++ replicate (64 - n) (states.cell (ranges.point 0))
+first-cells n cs = take n cs ++ replicate (64 - n) states.blank
 
 -- the state of the caller's first n ranges; over 64 variables is 4 at 0
 unfoldable pub started : ℕ → List Cell → Answer State

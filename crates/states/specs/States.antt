@@ -13,8 +13,11 @@ use Rattle.states.specs.declared.Cell.{Cell}
 abbrev pub cell : Range → Cell
 cell r = record { range = r }
 
+abbrev pub blank : Cell
+blank = cell (ranges.point 0)
+
 abbrev pub zeros : List Cell
-zeros = replicate 64 (cell (ranges.point 0))
+zeros = replicate 64 blank
 
 -- the empty state
 abbrev pub empty : State
@@ -26,7 +29,7 @@ live cs = record { live = true; cells = cs }
 
 -- the range of a variable
 abbrev pub get : State → ℕ → Range
-get s v = getD (s .cells) v (cell (ranges.point 0)) .range
+get s v = getD (s .cells) v blank .range
 
 -- a state of n variables: empty, or with a range for each that is not Empty; the other cells are as they were made
 pub record Fit (n : ℕ) (s : State) : Type 0 where

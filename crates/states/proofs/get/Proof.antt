@@ -1,0 +1,24 @@
+use borrow.Author.Needs.{needs}
+use Rattle.states.proofs.get.Statement.{statement}
+use Rattle.states.proofs.get.Tie as tie
+use Rattle.states.proofs.get.Reads as reads
+use Rattle.states.proofs.get.Lts as lts
+
+-- src/lib.rt:56:20
+mul-cell : tie.Need-mul-cell
+mul-cell c = search needs
+
+-- src/lib.rt:56:20
+element-copy-out-cell : tie.Need-element-copy-out-cell
+element-copy-out-cell c = search needs
+
+-- src/lib.rt:57:9
+returns : tie.Need-returns
+returns c = ?
+
+-- src/lib.rt:52:1
+returns-2 : tie.Need-returns-2
+returns-2 c = ?
+
+pub get-spec : {M : Type 1} → statement M
+get-spec = tie.close (tie.spec mul-cell element-copy-out-cell returns returns-2)
