@@ -19,35 +19,36 @@ use Rattle.paper.specs.Rules as rules
 use Rattle.states.specs.Answers.{Answer, Gives}
 use Rattle.paper.specs.Rules.{Setting, Looped}
 use Rattle.paper.specs.Runs.{Store, False, Runs, Turned, Holds}
-use Rattle.paper.specs.Below.{BelowE, Below}
+use Rattle.paper.proofs.Below.{EventBelow, StatementsBelow}
 use Rattle.paper.specs.Answers as answers
 use Rattle.paper.specs.Answers.{Outcome}
-use Rattle.paper.specs.Promises.{LoopOk, LoopsS, Covers, LoopCovers, Certainty}
+use Rattle.paper.specs.Used.{used}
+use Rattle.paper.specs.Promises.{LoopHolds, StatementLoops, Covers, LoopCovers, Certainty}
 use Rattle.paper.proofs.Sure.{Sure, given, refused, sure-then, sure-by, sure-elim, sure-map, sure-of}
 use Rattle.paper.proofs.Held.{holds-dead}
 use Rattle.paper.proofs.Splits.{event-ok}
 use Rattle.paper.proofs.Sound.{looping-ok, list-ok}
 use Rattle.paper.proofs.ReaderSound.{Codes, letter, all-at, unless-is}
 use Rattle.paper.proofs.ReaderSound as reads
-use Rattle.paper.proofs.Within.{below}
+use Rattle.paper.proofs.Within.{event-below, below}
 use Rattle.paper.proofs.Starts.{Admitted, admitted-ok}
-use Rattle.paper.proofs.Visits.{loops-ok, loopsS-ok}
+use Rattle.paper.proofs.Visits.{list-loops, statement-loops}
 
 -- ---- on trees
 
 -- the analysis of a list holds every finite run of it
-pub sound : (g : Setting) (p : Statements) (at : ℕ) (s t : State) → g .n ≤ 64 → Below (g .n) p → Fit (g .n) s → rules.list g at p s ≡ Gives t →
+pub sound : (g : Setting) (p : Statements) (at : ℕ) (s t : State) → g .n ≤ 64 → StatementsBelow (g .n) p → Fit (g .n) s → rules.list g at p s ≡ Gives t →
     (σ τ : Store) → Holds (g .n) s σ → Runs p σ τ → Holds (g .n) t τ
 sound g p at s t small below f e σ τ h r = sure-of (list-ok g small p at s below f) e .held σ τ h r
 
 -- where it is empty, no run ends
-pub none-ends : (g : Setting) (p : Statements) (at : ℕ) (s t : State) → g .n ≤ 64 → Below (g .n) p → Fit (g .n) s → rules.list g at p s ≡ Gives t → t .live ≡ false →
+pub none-ends : (g : Setting) (p : Statements) (at : ℕ) (s t : State) → g .n ≤ 64 → StatementsBelow (g .n) p → Fit (g .n) s → rules.list g at p s ≡ Gives t → t .live ≡ false →
     (σ τ : Store) → Holds (g .n) s σ → Runs p σ τ → ⊥
 none-ends g p at s t small below f e d σ τ h r = holds-dead d (sound g p at s t small below f e σ τ h r)
 
 -- each time a loop is analysed, also an inner one
-pub loop-sound : (g : Setting) (e : Event) (b : Statements) (i j u : ℕ) (s : State) (l : Looped) → g .n ≤ 64 → BelowE (g .n) e → Below (g .n) b → Fit (g .n) s →
-    rules.looping (g .n) (λ h. rules.event g i e h) (λ h. rules.list g j b h) u s ≡ Gives l → LoopOk (g .n) (Turned e b) (False e) u s l
+pub loop-sound : (g : Setting) (e : Event) (b : Statements) (i j u : ℕ) (s : State) (l : Looped) → g .n ≤ 64 → EventBelow (g .n) e → StatementsBelow (g .n) b → Fit (g .n) s →
+    rules.looping (g .n) (λ h. rules.event g i e h) (λ h. rules.list g j b h) u s ≡ Gives l → LoopHolds (g .n) (Turned e b) (False e) u s l
 loop-sound g e b i j u s l small be bb f q =
     sure-of (looping-ok (g .n) small e b (λ h. rules.event g i e h) (λ h. rules.list g j b h) (λ s f. event-ok g small e i s be f) (λ s f. list-ok g small b j s bb f) u s f) q
 
@@ -72,7 +73,7 @@ analysed-ok ws n cs u long =
       fit = T .fit;
       covers = λ σ τ h r. T .held σ τ (A .held σ h) r;
       none-ends = λ d σ τ h r. holds-dead d (T .held σ τ (A .held σ h) r);
-      loops = loops-ok (record { n = n; unroll = u }) (A .small) p 1 s (below n (reads.sound ws n e .within)) (A .fit);
+      loops = list-loops (record { n = n; unroll = u }) (A .small) p 1 s (below n (reads.sound ws n e .within)) (A .fit);
     })))
 
 pub analysed-covers : (ws : List ℕ) (n : ℕ) (cs : List Cell) (u : ℕ) (t : State) → length cs ≡ 64 → answers.analysed ws n cs u ≡ Gives t → Covers ws n cs u t
@@ -96,8 +97,8 @@ pub record Entry (g : Setting) (p : Statements) (s : State) (l : Looped) : Type 
   pub event : Event
   pub body : Statements
   pub is : p ≡ (While unroll event body then done)
-  pub loops : LoopsS g (While unroll event body) 1 s
-  pub ok : LoopOk (g .n) (Turned event body) (False event) (rules.turns g unroll) s l
+  pub loops : StatementLoops g (While unroll event body) 1 s
+  pub ok : LoopHolds (g .n) (Turned event body) (False event) (rules.turns g unroll) s l
 
 no-more : (cs : Statements) → code.count cs ≡ 0 → cs ≡ done
 unfolding code.count
@@ -105,11 +106,11 @@ no-more done h = refl
 no-more (c then cs) h = absurd (omega arith)
 
 module _ (g : Setting) (small : g .n ≤ 64) where
-  entry-of : (c : Statement) (cs : Statements) (s : State) → Below (g .n) (c then cs) → Fit (g .n) s → cs ≡ done → Sure (Entry g (c then cs) s) (answers.loop-of g c s)
+  entry-of : (c : Statement) (cs : Statements) (s : State) → StatementsBelow (g .n) (c then cs) → Fit (g .n) s → cs ≡ done → Sure (Entry g (c then cs) s) (answers.loop-of g c s)
   entry-of (While m e b) cs s lt f q = sure-map
       (looping-ok (g .n) small e b (λ h. rules.event g 4 e h) (λ h. rules.list g (4 + length (code.event e) + 1) b h)
       (λ s f. event-ok g small e 4 s (lt .0 .0) f) (λ s f. list-ok g small b (4 + length (code.event e) + 1) s (lt .0 .1) f) (rules.turns g m) s f)
-      (λ l L. record { unroll = m; event = e; body = b; is = ap (λ (x : Statements). While m e b then x) q; loops = loopsS-ok g small (While m e b) 1 s (lt .0) f; ok = L })
+      (λ l L. record { unroll = m; event = e; body = b; is = ap (λ (x : Statements). While m e b then x) q; loops = statement-loops g small (While m e b) 1 s (lt .0) f; ok = L })
   entry-of (Sample v a d) cs s lt f q = refused
   entry-of (Assign v a x k) cs s lt f q = refused
   entry-of (Decrement v k) cs s lt f q = refused
@@ -117,7 +118,7 @@ module _ (g : Setting) (small : g .n ≤ 64) where
   entry-of Fail cs s lt f q = refused
   entry-of (Normalize vs b) cs s lt f q = refused
 
-  entry : (p : Statements) (s : State) → Below (g .n) p → Fit (g .n) s → code.count p ≡ 1 → Sure (Entry g p s) (answers.only-loop g p s)
+  entry : (p : Statements) (s : State) → StatementsBelow (g .n) p → Fit (g .n) s → code.count p ≡ 1 → Sure (Entry g p s) (answers.only-loop g p s)
   unfolding code.count
   entry done s lt f q = refused
   entry (c then cs) s lt f q = entry-of c cs s lt f (no-more cs (omega arith))
@@ -155,7 +156,7 @@ ran-ok : (ws : List ℕ) → Sure (λ o. Covers ws (o .n) states.zeros 0 (o .sta
 unfolding answers.ran
 ran-ok ws = sure-elim (ltb 8192 (length ws)) (λ _. refused) (λ _.
     sure-read (reader.program ws 64) (λ p i e.
-    sure-then (analysed-ok ws (answers.used p) states.zeros 0 refl) (λ s C. given C)))
+    sure-then (analysed-ok ws (used p) states.zeros 0 refl) (λ s C. given C)))
 
 -- from the store of zeros
 pub ran-covers : (ws : List ℕ) (o : Outcome) → answers.ran ws ≡ Gives o → Covers ws (o .n) states.zeros 0 (o .state)
@@ -164,4 +165,4 @@ ran-covers ws o e = sure-of (ran-ok ws) e
 -- ---- certainty 3, in one place
 
 pub certain : Certainty
-certain = record { analysed = analysed-covers; looped = looped-covers; ran = ran-covers; each-loop = loop-sound }
+certain = record { analysed = analysed-covers; looped = looped-covers; ran = ran-covers; each-loop = λ g deep loops e b i j u s l small inside within. loop-sound g e b i j u s l small (event-below (g .n) inside) (below (g .n) within) }

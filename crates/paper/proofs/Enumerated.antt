@@ -18,7 +18,7 @@ use Rattle.states.proofs.Fits.{fit-empty, fit-put, fit-join}
 use Rattle.paper.specs.Rules as rules
 use Rattle.states.specs.Answers.{Answer}
 use Rattle.paper.specs.Runs.{Store, Holds, _∈_}
-use Rattle.paper.specs.Below.{BelowV}
+use Rattle.paper.proofs.Below.{EachBelow}
 use Rattle.paper.proofs.Sure.{Sure, given, refused, sure-then, sure-elim, sure-map}
 use Rattle.paper.proofs.Held.{put-kept, join-left, join-right}
 use Rattle.paper.proofs.Loops.{Post}
@@ -59,7 +59,7 @@ module _ (n : ℕ) (small : n ≤ 64) (body : State → Answer State) (Does : St
         held = λ σ τ k d. let i = h σ k in T .held σ τ k (i .0) (omega arith) d;
       }))
 
-  pub normalized-ok : (vs : List ℕ) (at : ℕ) (s : State) → BelowV n vs → Fit n s → Sure (Post n Does s) (rules.normalized n body at vs s)
+  pub normalized-ok : (vs : List ℕ) (at : ℕ) (s : State) → EachBelow n vs → Fit n s → Sure (Post n Does s) (rules.normalized n body at vs s)
   unfolding rules.normalized
   normalized-ok [] at s lt f = body-ok s f
   normalized-ok (v ∷ vs) at s lt f = sure-elim (s .live)

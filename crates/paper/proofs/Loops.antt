@@ -12,9 +12,9 @@ use Rattle.states.specs.States.{Fit}
 use Rattle.states.proofs.Fits.{fit-empty, fit-join, fit-widen, same-live, same-dead, within-self, within-dead, left-of, left-bound, widen-falls, widen-live, join-dead}
 use Rattle.paper.specs.Rules as rules
 use Rattle.states.specs.Answers.{Answer, Gives}
-use Rattle.paper.specs.Rules.{Pass, Found, AtPass, Nowhere, Settling, Looped}
+use Rattle.paper.specs.Rules.{Pass, Settled, Found, AtPass, Nowhere, Settling, Looped}
 use Rattle.paper.specs.Runs.{Store, Holds}
-use Rattle.paper.specs.Promises.{LoopOk}
+use Rattle.paper.specs.Promises.{LoopHolds}
 use Rattle.paper.proofs.Sure.{Sure, given, sure-then, sure-by, sure-elim, sure-map, sure-of, sure-eq, sure-both}
 use Rattle.paper.proofs.Held.{join-left, join-right, widen-held, within-held}
 use Rattle.paper.proofs.Splits.{Kept}
@@ -96,8 +96,8 @@ module _ (n : ℕ) (small : n ≤ 64) (pass : State → Answer Pass) (exit : Sta
   unrolled-still (suc k) (suc m) t f h st = sure-by (pass (t .next)) (λ p e.
       unrolled-still k m (record { next = p .next; exit = states.join n (t .exit) (p .exit) }) (sure-of (pass-ok (t .next) f) e .next .fit) (omega arith) (sure-of st e))
 
-  joining-still : (k i : ℕ) (s : State) → Fit n s → Still s → Sure (λ j. (j .settled ≡ true) × (j .passes ≡ i + 1)) (rules.joining n pass exit (suc k) i s)
-  unfolding rules.joining
+  joining-still : (k i : ℕ) (s : State) → Fit n s → Still s → Sure (λ j. (j .settled ≡ true) × (j .passes ≡ i + 1)) (rules.growing n pass exit (states.join n) (suc k) i s)
+  unfolding rules.growing
   joining-still k i s f st = sure-by (pass s) (λ p e. sure-elim (states.within n (p .next) s)
       (λ t. given (refl, refl))
       (λ t. absurd (false≢true (sym t ∙ still-within s p f st e))))
@@ -131,21 +131,25 @@ module _ (n : ℕ) (small : n ≤ 64) (pass : State → Answer Pass) (exit : Sta
   further : {k i : ℕ} {s t : State} {j : Settling} → (s .live ≡ false → t .live ≡ false) → ((σ : Store) → Holds n s σ → Holds n t σ) → Grown k (i + 1) t j → Grown (suc k) i s j
   further d h G = record { fit = G .fit; dead = λ x. G .dead (d x); held = λ σ x. G .held σ (h σ x); closed = G .closed; few = omega (arith, G .few) }
 
-  joining-ok : (k i : ℕ) (s : State) → Fit n s → Sure (Grown k i s) (rules.joining n pass exit k i s)
-  unfolding rules.joining
-  joining-ok zero i s f = given (unsettled i s f)
-  joining-ok (suc k) i s f = sure-then (pass-ok s f) (λ p P. sure-elim (states.within n (p .next) s)
-      (λ w. given (stopped k i s p f P w))
-      (λ w. sure-map (joining-ok k (i + 1) (states.join n s (p .next)) (fit-join n small s (p .next) f (P .next .fit)))
-      (λ j. further (λ d. join-dead n s (p .next) d (P .next .dead d)) (λ σ h. join-left n small s (p .next) σ f (P .next .fit) h))))
+  -- what a stage needs of the way in which a state grows
+  record Grows (grow : State → State → State) : Type 0 where
+    fit : (s t : State) → Fit n s → Fit n t → Fit n (grow s t)
+    dead : (s t : State) → s .live ≡ false → t .live ≡ false → grow s t .live ≡ false
+    held : (s t : State) (σ : Store) → Fit n s → Fit n t → Holds n s σ → Holds n (grow s t) σ
 
-  widening-ok : (k i : ℕ) (s : State) → Fit n s → Sure (Grown k i s) (rules.widening n pass exit k i s)
-  unfolding rules.widening
-  widening-ok zero i s f = given (unsettled i s f)
-  widening-ok (suc k) i s f = sure-then (pass-ok s f) (λ p P. sure-elim (states.within n (p .next) s)
+  join-grows : Grows (states.join n)
+  join-grows = record { fit = fit-join n small; dead = join-dead n; held = join-left n small }
+
+  widen-grows : Grows (states.widen n)
+  widen-grows = record { fit = fit-widen n small; dead = λ s t d _. widen-live n small s t ∙ d; held = widen-held n small }
+
+  growing-ok : {grow : State → State → State} → Grows grow → (k i : ℕ) (s : State) → Fit n s → Sure (Grown k i s) (rules.growing n pass exit grow k i s)
+  unfolding rules.growing
+  growing-ok G zero i s f = given (unsettled i s f)
+  growing-ok {grow} G (suc k) i s f = sure-then (pass-ok s f) (λ p P. sure-elim (states.within n (p .next) s)
       (λ w. given (stopped k i s p f P w))
-      (λ w. sure-map (widening-ok k (i + 1) (states.widen n s (p .next)) (fit-widen n small s (p .next) f (P .next .fit)))
-      (λ j. further (λ d. widen-live n small s (p .next) ∙ d) (λ σ h. widen-held n small s (p .next) σ f (P .next .fit) h))))
+      (λ w. sure-map (growing-ok G k (i + 1) (grow s (p .next)) (G .fit s (p .next) f (P .next .fit)))
+      (λ j. further (λ d. G .dead s (p .next) d (P .next .dead d)) (λ σ h. G .held s (p .next) σ f (P .next .fit) h))))
 
   -- a pass from an empty state stops
   was-live : (s : State) (p : Pass) → Passed n Turn Out s p → states.within n (p .next) s ≡ false → s .live ≡ true
@@ -156,8 +160,8 @@ module _ (n : ℕ) (small : n ≤ 64) (pass : State → Answer Pass) (exit : Sta
       go false d = absurd (false≢true (sym w ∙ within-dead n small (p .next) s (P .next .dead d)))
 
   -- each pass that does not stop gives up a start or an end, so the widening settles
-  widening-settles : (k i : ℕ) (s : State) → Fit n s → 0 < k → (s .live ≡ true → left-of n small s < k) → Sure (λ w. w .settled ≡ true) (rules.widening n pass exit k i s)
-  unfolding rules.widening
+  widening-settles : (k i : ℕ) (s : State) → Fit n s → 0 < k → (s .live ≡ true → left-of n small s < k) → Sure (λ w. w .settled ≡ true) (rules.growing n pass exit (states.widen n) k i s)
+  unfolding rules.growing
   widening-settles zero i s f h enough = absurd (omega arith)
   widening-settles (suc k) i s f h enough = sure-then (pass-ok s f) (λ p P. sure-elim (states.within n (p .next) s)
       (λ w. given refl)
@@ -166,7 +170,7 @@ module _ (n : ℕ) (small : n ≤ 64) (pass : State → Answer Pass) (exit : Sta
       widening-settles k (i + 1) (states.widen n s (p .next)) (fit-widen n small s (p .next) f (P .next .fit)) (omega arith) (λ _. less)))
 
   -- the two stages
-  record Settles (s : State) (m : record { at : State; joined : ℕ; widened : ℕ }) : Type 0 where
+  record Settles (s : State) (m : Settled) : Type 0 where
     fit : Fit n (m .at)
     dead : s .live ≡ false → m .at .live ≡ false
     held : (σ : Store) → Holds n s σ → Holds n (m .at) σ
@@ -176,9 +180,9 @@ module _ (n : ℕ) (small : n ≤ 64) (pass : State → Answer Pass) (exit : Sta
 
   settle-ok : (s : State) → Fit n s → Sure (Settles s) (rules.settle n pass exit s)
   unfolding rules.settle
-  settle-ok s f = sure-then (joining-ok 100 0 s f) (λ j J. sure-elim (j .settled)
+  settle-ok s f = sure-then (growing-ok join-grows 100 0 s f) (λ j J. sure-elim (j .settled)
       (λ t. given (record { fit = J .fit; dead = J .dead; held = J .held; closed = J .closed t; joined = omega (arith, J .few); widened = omega arith }))
-      (λ _. sure-then (sure-both (widening-ok (n + n + 1) 0 (j .at) (J .fit)) (widening-settles (n + n + 1) 0 (j .at) (J .fit) (omega arith) (λ _. omega (arith, left-bound n small (j .at))))) (λ w W.
+      (λ _. sure-then (sure-both (growing-ok widen-grows (n + n + 1) 0 (j .at) (J .fit)) (widening-settles (n + n + 1) 0 (j .at) (J .fit) (omega arith) (λ _. omega (arith, left-bound n small (j .at))))) (λ w W.
       given (record {
         fit = W .0 .fit;
         dead = λ d. W .0 .dead (J .dead d);
@@ -283,7 +287,7 @@ module _ (n : ℕ) (small : n ≤ 64) (pass : State → Answer Pass) (exit : Sta
     later s j closed c (suc k) i q = subst (λ (m : ℕ). Covered m s) (omega arith) (λ σ τ h r.
         let b = back (j + k) σ τ r in closed (b .0) τ (later s j closed c k (j + k) refl σ (b .0) h (b .1)) (b .2))
 
-    pub loop-ok : (u : ℕ) → Fit n first → Sure (LoopOk n Reach Out u first) (rules.loop n pass exit u first)
+    pub loop-ok : (u : ℕ) → Fit n first → Sure (LoopHolds n Reach Out u first) (rules.loop n pass exit u first)
     unfolding rules.loop
     loop-ok u f =
         sure-then (search-ok 100 0 first f) (λ w W.

@@ -21,8 +21,8 @@ use Rattle.paper.specs.Rules as rules
 use Rattle.states.specs.Answers.{Answer, Gives}
 use Rattle.paper.specs.Rules.{Setting, Sides, Looped}
 use Rattle.paper.specs.Runs.{Store, worth, _∈_, True, False, Run, sampled, assigned, decremented, went-then, went-else, left, normalized, Runs, ended, went-on, Turned, at-head, once-more, Holds}
-use Rattle.paper.specs.Below.{BelowA, BelowS, Below}
-use Rattle.paper.specs.Promises.{LoopOk}
+use Rattle.paper.proofs.Below.{AddendBelow, StatementBelow, StatementsBelow}
+use Rattle.paper.specs.Promises.{LoopHolds}
 use Rattle.paper.proofs.Sure.{Sure, given, refused, sure-then, sure-if, sure-map}
 use Rattle.paper.proofs.Held.{holds-dead, put-stored, join-left, join-right}
 use Rattle.paper.proofs.Splits.{Split, event-ok}
@@ -46,7 +46,7 @@ module _ (n : ℕ) (small : n ≤ 64) (e : Event) (b : Statements) (event : Stat
     exit = T .no;
   })))
 
-  pub looping-ok : (u : ℕ) (s : State) → Fit n s → Sure (LoopOk n (Turned e b) (False e) u s) (rules.looping n event body u s)
+  pub looping-ok : (u : ℕ) (s : State) → Fit n s → Sure (LoopHolds n (Turned e b) (False e) u s) (rules.looping n event body u s)
   looping-ok u s f = loop-ok n small (rules.pass-of event body) (rules.exit-of event) (λ σ τ. True e σ × Runs b σ τ) (False e)
       pass-ok (λ s f. sure-then (event-fine s f) (λ t T. given (T .no))) (Turned e b) no-turn last-turn s u f
 
@@ -64,7 +64,7 @@ module _ (g : Setting) (small : g .n ≤ 64) where
       put-stored (g .n) small s v (ranges.sum (cond add (states.get s v) (ranges.point 0)) (rules.drawn d)) σ (cond add (σ v) 0 + x) lt f h
       (L.sum-holds (cond add (states.get s v) (ranges.point 0)) (rules.drawn d) (cond add (σ v) 0) x (old-held add s v σ lt h) i)
 
-  scaled-held : (x : Addend) (s : State) (σ : Store) → BelowA (g .n) x → Holds (g .n) s σ → L.holds-bounded (rules.scaled s x) (worth σ x)
+  scaled-held : (x : Addend) (s : State) (σ : Store) → AddendBelow (g .n) x → Holds (g .n) s σ → L.holds-bounded (rules.scaled s x) (worth σ x)
   scaled-held Nought s σ lt h = refl
   scaled-held (Times f w) s σ lt h = rw (mul-comm f (σ w)) (L.times-holds (states.get s w) f (σ w) (h .each w lt))
 
@@ -92,7 +92,7 @@ module _ (g : Setting) (small : g .n ≤ 64) where
   branch-held e t f s u a b σ τ U A B h (went-then c d) = join-left (g .n) small a b τ (A .fit) (B .fit) (A .held σ τ (U .yes .held σ h c) d)
   branch-held e t f s u a b σ τ U A B h (went-else c d) = join-right (g .n) small a b τ (A .fit) (B .fit) (B .held σ τ (U .no .held σ h c) d)
 
-  left-held : (m : Unroll) (e : Event) (b : Statements) (u : ℕ) (s : State) (l : Looped) (σ τ : Store) → LoopOk (g .n) (Turned e b) (False e) u s l → Holds (g .n) s σ → Run (While m e b) σ τ → Holds (g .n) (l .exits) τ
+  left-held : (m : Unroll) (e : Event) (b : Statements) (u : ℕ) (s : State) (l : Looped) (σ τ : Store) → LoopHolds (g .n) (Turned e b) (False e) u s l → Holds (g .n) s σ → Run (While m e b) σ τ → Holds (g .n) (l .exits) τ
   left-held m e b u s l σ τ L h (left {k = k} r o) = L .covers k σ τ h r o
 
   no-run : (σ τ : Store) → Run Fail σ τ → ⊥
@@ -110,7 +110,7 @@ module _ (g : Setting) (small : g .n ≤ 64) where
   mutual
     unfolding rules.statement rules.list
 
-    pub statement-ok : (c : Statement) (at : ℕ) (s : State) → BelowS (g .n) c → Fit (g .n) s → Sure (Post (g .n) (Run c) s) (rules.statement g at c s)
+    pub statement-ok : (c : Statement) (at : ℕ) (s : State) → StatementBelow (g .n) c → Fit (g .n) s → Sure (Post (g .n) (Run c) s) (rules.statement g at c s)
     statement-ok (Sample v add d) at s lt f = given (record {
       fit = fit-put (g .n) small s v (ranges.sum (cond add (states.get s v) (ranges.point 0)) (rules.drawn d)) (lt .0) f;
       dead = put-dead s v (ranges.sum (cond add (states.get s v) (ranges.point 0)) (rules.drawn d));
@@ -140,7 +140,7 @@ module _ (g : Setting) (small : g .n ≤ 64) where
         sure-map (normalized-ok (g .n) small (λ h. rules.list g (at + 2 + length vs + 1) b h) (Runs b) (λ s f. list-ok b (at + 2 + length vs + 1) s (lt .1) f) vs (at + 2) s (lt .0) f) (λ t T.
         record { fit = T .fit; dead = T .dead; held = λ σ τ h r. T .held σ τ h (body-run σ τ r) })
 
-    pub list-ok : (p : Statements) (at : ℕ) (s : State) → Below (g .n) p → Fit (g .n) s → Sure (Post (g .n) (Runs p) s) (rules.list g at p s)
+    pub list-ok : (p : Statements) (at : ℕ) (s : State) → StatementsBelow (g .n) p → Fit (g .n) s → Sure (Post (g .n) (Runs p) s) (rules.list g at p s)
     list-ok done at s lt f = given (record { fit = f; dead = λ d. d; held = λ σ τ h r. none-held s σ τ h r })
     list-ok (c then cs) at s lt f =
         sure-then (statement-ok c at s (lt .0) f) (λ t T.

@@ -18,7 +18,7 @@ use Rattle.paper.specs.Code as code
 use Rattle.paper.specs.Rules as rules
 use Rattle.paper.specs.Rules.{Setting, Sides, cut}
 use Rattle.paper.specs.Runs.{Store, Holds, True, False, AllTrue, OneFalse}
-use Rattle.paper.specs.Below.{BelowE, BelowEs}
+use Rattle.paper.proofs.Below.{EventBelow, EventsBelow}
 use Rattle.paper.proofs.Sure.{Sure, given, refused, sure-then, sure-if, sure-map}
 use Rattle.paper.proofs.Held.{put-kept, join-left, join-right}
 
@@ -88,7 +88,7 @@ module _ (g : Setting) (small : g .n ≤ 64) where
   mutual
     unfolding rules.event rules.events True False AllTrue OneFalse
 
-    pub event-ok : (e : Event) (at : ℕ) (s : State) → BelowE (g .n) e → Fit (g .n) s → Sure (Split (g .n) e s) (rules.event g at e s)
+    pub event-ok : (e : Event) (at : ℕ) (s : State) → EventBelow (g .n) e → Fit (g .n) s → Sure (Split (g .n) e s) (rules.event g at e s)
     event-ok (InSet v xs) at s lt f = cut-ok at s v xs (ranges.remove (states.get s v) xs) lt f (λ σ h t. L.remove-holds (states.get s v) xs (σ v) (h .each v lt) t)
     event-ok (VarComparison v w) at s lt f = given (record { yes = kept-same s f; no = kept-same s f })
     event-ok (DataFromDist x d) at s lt f = given (record { yes = kept-same s f; no = kept-same s f })
@@ -101,7 +101,7 @@ module _ (g : Setting) (small : g .n ≤ 64) where
       no = record { fit = U .no-fit; dead = λ d. U .no-dead d refl; held = λ σ h t. U .no-held σ h t };
     })
 
-    pub events-ok : (es : Events) (at : ℕ) (t : Sides) → BelowEs (g .n) es → Fit (g .n) (t .yes) → Fit (g .n) (t .no) → Sure (Splits (g .n) es t) (rules.events g at es t)
+    pub events-ok : (es : Events) (at : ℕ) (t : Sides) → EventsBelow (g .n) es → Fit (g .n) (t .yes) → Fit (g .n) (t .no) → Sure (Splits (g .n) es t) (rules.events g at es t)
     events-ok none at t lt f k = given (record { yes = kept-same (t .yes) f; no-fit = k; no-dead = λ _ d. d; no-kept = λ σ h. h; no-held = λ σ h x. absurd x })
     events-ok (e also es) at t lt f k = sure-then (event-ok e at (t .yes) (lt .0) f) (λ u U.
         sure-map (events-ok es (at + length (code.event e)) (record { yes = u .yes; no = states.join (g .n) (t .no) (u .no) }) (lt .1) (U .yes .fit) (fit-join (g .n) small (t .no) (u .no) k (U .no .fit))) (λ w W. record {

@@ -14,8 +14,8 @@ use Rattle.paper.specs.Rules as rules
 use Rattle.states.specs.Answers.{Answer, Gives}
 use Rattle.paper.specs.Rules.{Setting, Sides, Pass, Looped}
 use Rattle.paper.specs.Runs.{Store, True, False, Runs, Turned}
-use Rattle.paper.specs.Below.{BelowV, BelowS, Below}
-use Rattle.paper.specs.Promises.{LoopOk, Head, first, next, joined, widened, Points, all-set, set-to, LoopsS, Loops}
+use Rattle.paper.proofs.Below.{EachBelow, StatementBelow, StatementsBelow}
+use Rattle.paper.specs.Promises.{LoopHolds, Head, first, next, joined, widened, Points, all-set, set-to, StatementLoops, ListLoops}
 use Rattle.paper.proofs.Sure.{Sure, sure-of}
 use Rattle.paper.proofs.Splits.{event-ok}
 use Rattle.paper.proofs.Loops.{Passed}
@@ -30,31 +30,31 @@ head-fit n small pass Turn Out ok s h f (joined {h = k} {p = p} H e) =
 head-fit n small pass Turn Out ok s h f (widened {h = k} {p = p} H e) =
     let i = head-fit n small pass Turn Out ok s k f H in fit-widen n small k (p .next) i (sure-of (ok k i) e .next .fit)
 
-points-fit : (n : ℕ) (small : n ≤ 64) {vs : List ℕ} (s h : State) → BelowV n vs → Fit n s → Points vs s h → Fit n h
+points-fit : (n : ℕ) (small : n ≤ 64) {vs : List ℕ} (s h : State) → EachBelow n vs → Fit n s → Points vs s h → Fit n h
 points-fit n small s h lt f all-set = f
 points-fit n small s h lt f (set-to {v = v} x P) = points-fit n small (states.put s v (ranges.point x)) h (lt .1) (fit-put n small s v (ranges.point x) (lt .0) f) P
 
 module _ (g : Setting) (small : g .n ≤ 64) where
   mutual
-    pub loopsS-ok : (c : Statement) (at : ℕ) (s : State) → BelowS (g .n) c → Fit (g .n) s → LoopsS g c at s
-    loopsS-ok (Sample v add d) at s lt f = tt
-    loopsS-ok (Assign v add x k) at s lt f = tt
-    loopsS-ok (Decrement v k) at s lt f = tt
-    loopsS-ok (IfThenElse e t o) at s lt f = λ u q.
+    pub statement-loops : (c : Statement) (at : ℕ) (s : State) → StatementBelow (g .n) c → Fit (g .n) s → StatementLoops g c at s
+    statement-loops (Sample v add d) at s lt f = tt
+    statement-loops (Assign v add x k) at s lt f = tt
+    statement-loops (Decrement v k) at s lt f = tt
+    statement-loops (IfThenElse e t o) at s lt f = λ u q.
         let U = sure-of (event-ok g small e (at + 1) s (lt .0) f) q in
-        (loops-ok t (at + 1 + length (code.event e) + 1) (u .yes) (lt .1) (U .yes .fit), loops-ok o (at + 1 + length (code.event e) + 1 + length (code.list t) + 1) (u .no) (lt .2) (U .no .fit))
-    loopsS-ok (While m e b) at s lt f = (
+        (list-loops t (at + 1 + length (code.event e) + 1) (u .yes) (lt .1) (U .yes .fit), list-loops o (at + 1 + length (code.event e) + 1 + length (code.list t) + 1) (u .no) (lt .2) (U .no .fit))
+    statement-loops (While m e b) at s lt f = (
       λ l q. sure-of (looping-ok (g .n) small e b (λ h. rules.event g (at + 3) e h) (λ h. rules.list g (at + 3 + length (code.event e) + 1) b h)
           (λ s f. event-ok g small e (at + 3) s (lt .0) f) (λ s f. list-ok g small b (at + 3 + length (code.event e) + 1) s (lt .1) f) (rules.turns g m) s f) q,
       λ h H u q.
           let i = head-fit (g .n) small (rules.pass-of (λ h. rules.event g (at + 3) e h) (λ h. rules.list g (at + 3 + length (code.event e) + 1) b h)) (λ σ τ. True e σ × Runs b σ τ) (False e)
           (pass-ok (g .n) small e b (λ h. rules.event g (at + 3) e h) (λ h. rules.list g (at + 3 + length (code.event e) + 1) b h)
           (λ s f. event-ok g small e (at + 3) s (lt .0) f) (λ s f. list-ok g small b (at + 3 + length (code.event e) + 1) s (lt .1) f)) s h f H in
-          loops-ok b (at + 3 + length (code.event e) + 1) (u .yes) (lt .1) (sure-of (event-ok g small e (at + 3) h (lt .0) i) q .yes .fit),
+          list-loops b (at + 3 + length (code.event e) + 1) (u .yes) (lt .1) (sure-of (event-ok g small e (at + 3) h (lt .0) i) q .yes .fit),
     )
-    loopsS-ok Fail at s lt f = tt
-    loopsS-ok (Normalize vs b) at s lt f = λ h P. loops-ok b (at + 2 + length vs + 1) h (lt .1) (points-fit (g .n) small s h (lt .0) f P)
+    statement-loops Fail at s lt f = tt
+    statement-loops (Normalize vs b) at s lt f = λ h P. list-loops b (at + 2 + length vs + 1) h (lt .1) (points-fit (g .n) small s h (lt .0) f P)
 
-    pub loops-ok : (p : Statements) (at : ℕ) (s : State) → Below (g .n) p → Fit (g .n) s → Loops g p at s
-    loops-ok done at s lt f = tt
-    loops-ok (c then cs) at s lt f = (loopsS-ok c at s (lt .0) f, λ t q. loops-ok cs (at + length (code.statement c)) t (lt .1) (sure-of (statement-ok g small c at s (lt .0) f) q .fit))
+    pub list-loops : (p : Statements) (at : ℕ) (s : State) → StatementsBelow (g .n) p → Fit (g .n) s → ListLoops g p at s
+    list-loops done at s lt f = tt
+    list-loops (c then cs) at s lt f = (statement-loops c at s (lt .0) f, λ t q. list-loops cs (at + length (code.statement c)) t (lt .1) (sure-of (statement-ok g small c at s (lt .0) f) q .fit))

@@ -17,12 +17,12 @@ use Rattle.paper.specs.Rules as rules
 use Rattle.states.specs.Answers.{Answer, Gives}
 use Rattle.paper.specs.Rules.{Setting, Sides, Pass, Looped}
 use Rattle.paper.specs.Runs.{Store, False, Runs, Turned, Holds}
-use Rattle.paper.specs.Below.{BelowE, Below}
+use Rattle.paper.specs.Limits.{EventIn, StatementsIn}
 use Rattle.paper.specs.Answers as answers
 use Rattle.paper.specs.Answers.{Outcome}
 
 -- what a loop's analysis gives from s: Reach k leads from a store at the head to those at the head after k turns
-pub record LoopOk (n : ℕ) (Reach : ℕ → Store → Store → Type 0) (Out : Store → Type 0) (u : ℕ) (s : State) (l : Looped) : Type 0 where
+pub record LoopHolds (n : ℕ) (Reach : ℕ → Store → Store → Type 0) (Out : Store → Type 0) (u : ℕ) (s : State) (l : Looped) : Type 0 where
   pub fit : Fit n (l .exits)
   pub dead : s .live ≡ false → l .exits .live ≡ false
   pub covers : (k : ℕ) (σ τ : Store) → Holds n s σ → Reach k σ τ → Out τ → Holds n (l .exits) τ
@@ -48,23 +48,23 @@ pub data Points : List ℕ → State → State → Type 0 where
 module _ (g : Setting) where
   abbrev mutual
     -- in a statement at a place, analysed from s, the analysis of each loop, each time, is as promised
-    pub LoopsS : Statement → ℕ → State → Type 0
-    LoopsS (Sample v add d) at s = Unit {0}
-    LoopsS (Assign v add x k) at s = Unit {0}
-    LoopsS (Decrement v k) at s = Unit {0}
-    LoopsS (IfThenElse e t f) at s = (u : Sides) → rules.event g (at + 1) e s ≡ Gives u →
-        Loops t (at + 1 + length (code.event e) + 1) (u .yes) × Loops f (at + 1 + length (code.event e) + 1 + length (code.list t) + 1) (u .no)
-    LoopsS (While m e b) at s =
-        ((l : Looped) → rules.looping (g .n) (λ h. rules.event g (at + 3) e h) (λ h. rules.list g (at + 3 + length (code.event e) + 1) b h) (rules.turns g m) s ≡ Gives l →
-        LoopOk (g .n) (Turned e b) (False e) (rules.turns g m) s l)
-        × ((h : State) → Head (g .n) (rules.pass-of (λ h. rules.event g (at + 3) e h) (λ h. rules.list g (at + 3 + length (code.event e) + 1) b h)) s h →
-        (u : Sides) → rules.event g (at + 3) e h ≡ Gives u → Loops b (at + 3 + length (code.event e) + 1) (u .yes))
-    LoopsS Fail at s = Unit {0}
-    LoopsS (Normalize vs b) at s = (h : State) → Points vs s h → Loops b (at + 2 + length vs + 1) h
+    pub StatementLoops : Statement → ℕ → State → Type 0
+    StatementLoops (Sample v add d) at s = Unit {0}
+    StatementLoops (Assign v add x k) at s = Unit {0}
+    StatementLoops (Decrement v k) at s = Unit {0}
+    StatementLoops (IfThenElse e t f) at s = (u : Sides) → rules.event g (at + 1) e s ≡ Gives u →
+        ListLoops t (code.then-at at e + 1) (u .yes) × ListLoops f (code.else-at at e t + 1) (u .no)
+    StatementLoops (While m e b) at s =
+        ((l : Looped) → rules.looping (g .n) (λ h. rules.event g (at + 3) e h) (λ h. rules.list g (code.body-at at e + 1) b h) (rules.turns g m) s ≡ Gives l →
+        LoopHolds (g .n) (Turned e b) (False e) (rules.turns g m) s l)
+        × ((h : State) → Head (g .n) (rules.pass-of (λ h. rules.event g (at + 3) e h) (λ h. rules.list g (code.body-at at e + 1) b h)) s h →
+        (u : Sides) → rules.event g (at + 3) e h ≡ Gives u → ListLoops b (code.body-at at e + 1) (u .yes))
+    StatementLoops Fail at s = Unit {0}
+    StatementLoops (Normalize vs b) at s = (h : State) → Points vs s h → ListLoops b (code.normalized-at at vs + 1) h
 
-    pub Loops : Statements → ℕ → State → Type 0
-    Loops done at s = Unit {0}
-    Loops (c then cs) at s = LoopsS c at s × ((t : State) → rules.statement g at c s ≡ Gives t → Loops cs (at + length (code.statement c)) t)
+    pub ListLoops : Statements → ℕ → State → Type 0
+    ListLoops done at s = Unit {0}
+    ListLoops (c then cs) at s = StatementLoops c at s × ((t : State) → rules.statement g at c s ≡ Gives t → ListLoops cs (at + length (code.statement c)) t)
 
 -- ---- on words
 
@@ -79,7 +79,7 @@ pub record Covers (ws : List ℕ) (n : ℕ) (cs : List Cell) (u : ℕ) (t : Stat
   pub fit : Fit n t
   pub covers : (σ τ : Store) → Holds n (states.live cs) σ → Runs program σ τ → Holds n t τ
   pub none-ends : t .live ≡ false → (σ τ : Store) → Holds n (states.live cs) σ → Runs program σ τ → ⊥
-  pub loops : Loops (record { n = n; unroll = u }) program 1 start
+  pub loops : ListLoops (record { n = n; unroll = u }) program 1 start
 
 -- what a loop's own entry gives
 pub record LoopCovers (ws : List ℕ) (n : ℕ) (cs : List Cell) (u : ℕ) (l : Looped) : Type 0 where
@@ -96,12 +96,12 @@ pub record LoopCovers (ws : List ℕ) (n : ℕ) (cs : List Cell) (u : ℕ) (l : 
   pub joined : l .joined ≤ 100
   pub widened : l .widened ≤ 2 * n + 1
   pub passes : l .searched + l .unrolls + l .joined + l .widened ≤ 201 + rules.turns (record { n = n; unroll = u }) unroll + 2 * n
-  pub loops : LoopsS (record { n = n; unroll = u }) (While unroll event body) 1 start
+  pub loops : StatementLoops (record { n = n; unroll = u }) (While unroll event body) 1 start
 
 -- all of it
 pub record Certainty : Type 0 where
   pub analysed : (ws : List ℕ) (n : ℕ) (cs : List Cell) (u : ℕ) (t : State) → length cs ≡ 64 → answers.analysed ws n cs u ≡ Gives t → Covers ws n cs u t
   pub looped : (ws : List ℕ) (n : ℕ) (cs : List Cell) (u : ℕ) (l : Looped) → length cs ≡ 64 → answers.looped ws n cs u ≡ Gives l → LoopCovers ws n cs u l
   pub ran : (ws : List ℕ) (o : Outcome) → answers.ran ws ≡ Gives o → Covers ws (o .n) states.zeros 0 (o .state)
-  pub each-loop : (g : Setting) (e : Event) (b : Statements) (i j u : ℕ) (s : State) (l : Looped) → g .n ≤ 64 → BelowE (g .n) e → Below (g .n) b → Fit (g .n) s →
-      rules.looping (g .n) (λ h. rules.event g i e h) (λ h. rules.list g j b h) u s ≡ Gives l → LoopOk (g .n) (Turned e b) (False e) u s l
+  pub each-loop : (g : Setting) (deep loops : ℕ) (e : Event) (b : Statements) (i j u : ℕ) (s : State) (l : Looped) → g .n ≤ 64 → EventIn (g .n) deep e → StatementsIn (g .n) deep loops b → Fit (g .n) s →
+      rules.looping (g .n) (λ h. rules.event g i e h) (λ h. rules.list g j b h) u s ≡ Gives l → LoopHolds (g .n) (Turned e b) (False e) u s l

@@ -54,9 +54,9 @@ pub record Table : Type 0 where
   pub row10 : ranges.within ranges.naturals (Span 0 (At top)) ≡ false
   pub row11 : answers.analysed (drawn 0) 1 (one (ranges.point 4)) 0 ≡ Gives (states.live (one (ranges.point 0)))
   pub row11′ : answers.analysed (drawn 1) 1 (one (ranges.point 4)) 0 ≡ Gives (states.live (one (ranges.point 4)))
-  pub row12 : answers.looped counting 1 (one (ranges.point 0)) 0 ≡ Gives (record { exits = states.live (one (ranges.point 1)); settled = states.empty; searched = 3; unrolls = 2; joined = 1; widened = 0 })
-  pub row13 : answers.looped flipping 2 (both (ranges.point 1) (ranges.point 0)) 0 ≡ Gives (record { exits = states.live (both (ranges.point 0) ranges.naturals); settled = states.live (both (Span 0 (At 1)) ranges.naturals); searched = 100; unrolls = 0; joined = 100; widened = 2 })
+  pub row12 : answers.looped counting 1 (one (ranges.point 0)) 0 ≡ Gives (record { exits = states.live (one (ranges.point 1)); turned = states.empty; settled = states.empty; searched = 3; unrolls = 2; joined = 1; widened = 0 })
+  pub row13 : answers.looped flipping 2 (both (ranges.point 1) (ranges.point 0)) 0 ≡ Gives (record { exits = states.live (both (ranges.point 0) ranges.naturals); turned = states.live (both (ranges.point 1) (ranges.point 0)); settled = states.live (both (Span 0 (At 1)) ranges.naturals); searched = 100; unrolls = 0; joined = 100; widened = 2 })
 
 pub table : Table
-unfolding answers.analysed answers.looped starts.started starts.starting reader.program reader.statement reader.block reader.branch reader.while reader.normalize reader.given reader.sample reader.assign reader.decrement reader.unroll reader.addend reader.event reader.events reader.set reader.comparison reader.datum reader.draw reader.ratio reader.interval reader.flag reader.unless reader.word reader.many reader.by-kind reader.if-read reader.and-read rules.loop rules.search rules.unrolled rules.joining rules.widening rules.settle rules.statement rules.event code.event code.statement ranges.retain ranges.remove ranges.first-out ranges.has ranges.remove-end ranges.cut-end states.each states.every
+unfolding answers.analysed answers.looped starts.started starts.starting reader.program reader.statement reader.block reader.branch reader.while reader.normalize reader.given reader.sample reader.assign reader.decrement reader.unroll reader.addend reader.event reader.events reader.set reader.comparison reader.datum reader.draw reader.ratio reader.interval reader.flag reader.unless reader.word reader.many reader.by-kind reader.if-read reader.and-read rules.loop rules.search rules.unrolled rules.growing rules.settle rules.statement rules.event code.event code.statement ranges.retain ranges.remove ranges.first-out ranges.has ranges.remove-end ranges.cut-end states.each states.every
 table = record { row1 = refl; row2 = refl; row3 = refl; row4 = refl; row5 = refl; row5′ = refl; row6 = refl; row7 = refl; row7′ = refl; row8 = refl; row9 = refl; row10 = refl; row11 = refl; row11′ = refl; row12 = refl; row13 = refl }

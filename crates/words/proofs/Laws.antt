@@ -9,7 +9,7 @@ use lib.ListN.{length}
 use Rattle.paper.specs.Reader.{Reading, Read, Bad, and-read, by-kind, many, word, most, flag, event, event-kinds, statement, statement-kinds}
 use Rattle.words.specs.Words.{next, seen, unused, checked}
 use Rattle.paper.specs.Tree.{Statements}
-use Rattle.paper.specs.Answers.{used-event, used-statement}
+use Rattle.paper.specs.Used.{used-event, used-statement}
 use Rattle.words.specs.declared.Next.{Next}
 use Rattle.words.specs.declared.Next.the-variants.{Word, Stop}
 use Rattle.words.specs.declared.Seen.{Seen}

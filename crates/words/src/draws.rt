@@ -2,7 +2,7 @@
 ghost use mathlib.Core.Path.{_≡_};
 ghost use Rattle.paper.specs.Reader as reader;
 ghost use Rattle.words.specs.Words.{seen};
-ghost use Rattle.paper.specs.Answers.{used-draw};
+ghost use Rattle.paper.specs.Used.{used-draw};
 use crate::Next;
 use crate::Seen;
 use crate::word::small;

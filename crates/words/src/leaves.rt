@@ -3,7 +3,7 @@ ghost use mathlib.Core.Path.{_≡_};
 ghost use mathlib.Core.List.{[], _∷_};
 ghost use Rattle.paper.specs.Reader as reader;
 ghost use Rattle.words.specs.Words.{seen, unused};
-ghost use Rattle.paper.specs.Answers.{used-addend, used-statement};
+ghost use Rattle.paper.specs.Used.{used-addend, used-statement};
 use crate::Next;
 use crate::Seen;
 use crate::draws::draw;

@@ -3,7 +3,7 @@ ghost use mathlib.Core.Path.{_≡_};
 ghost use Prim.Native.Nat.{_-_, _<_};
 ghost use Rattle.paper.specs.Reader as reader;
 ghost use Rattle.words.specs.Words.{seen};
-ghost use Rattle.paper.specs.Answers.{used, used-statement};
+ghost use Rattle.paper.specs.Used.{used, used-statement};
 use crate::Next;
 use crate::Seen;
 use crate::events::event;

@@ -1,6 +1,6 @@
 use Rattle.words.proofs.Laws.{stop, on-word, last, no-kind, Other, above}
 use Rattle.words.specs.Words.{seen}
-use Rattle.paper.specs.Answers.{used-draw}
+use Rattle.paper.specs.Used.{used-draw}
 use Rattle.paper.specs.Reader.{draw, by-kind}
 use mathlib.Core.Path.{_≡_, refl, ap, sym, _∙_}
 use borrow.Author.Needs.{needs}

@@ -1,7 +1,7 @@
 use Rattle.words.proofs.Laws.{stop, on-word, last, event-stop, event-deep, event-kind, event-no-kind, Other, above, many-off, raised, raised-none, raised-off, rises, rises-none}
 use Rattle.paper.specs.Tree.{none, _also_}
 use Rattle.paper.specs.Reader as reader
-use Rattle.paper.specs.Answers as answers
+use Rattle.paper.specs.Used.{used-event, used-events}
 use Rattle.words.specs.Words.{seen}
 use Prim.Native.Nat.{suc, _+_, _-_, _*_}
 use mathlib.Core.Path.{_≡_, refl, ap, sym, _∙_}
@@ -125,14 +125,14 @@ event-returns-5 t c =
 
 -- src/events.rt:107:1
 event-returns-6 : (t : ℕ) → event-lts.Need-returns-6 (event-claims t) (event-at t) event.Post
-unfolding reader.by-kind answers.used-event
+unfolding reader.by-kind used-event
 event-returns-6 t c =
     let a = c .before .before .before .before .before .before .before .before .args in
     event-kind _ _ (a .deep) _ (c .before .before .before .before .before .before .word .ensures) (a .deep - 1) (omega (arith, c .before .before .if1 .left)) (c .before .before .before .before .w2 .given .1) 4 (c .before .match2 .keys4) (last _ _ _ _ (c .event .ensures) (λ _. refl))
 
 -- src/events.rt:107:1
 event-returns-7 : (t : ℕ) → event-lts.Need-returns-7 (event-claims t) (event-at t) event.Post
-unfolding reader.by-kind answers.used-event
+unfolding reader.by-kind used-event
 event-returns-7 t c =
     let a = c .before .before .before .before .before .before .before .before .args in
     event-kind _ _ (a .deep) _ (c .before .before .before .before .before .before .word .ensures) (a .deep - 1) (omega (arith, c .before .before .if1 .left)) (c .before .before .before .before .w2 .given .1) 5 (c .before .match2 .keys5) (last _ _ _ _ (c .events .ensures) (λ _. refl))
@@ -145,7 +145,7 @@ event-returns-8 t c =
     event-no-kind _ _ (a .deep) _ (c .before .before .before .before .before .word .ensures) (a .deep - 1) (omega (arith, c .before .if1 .left)) (c .before .before .before .w2 .given .1) (above 5 _ (c .match2 .rest))
 
 abbrev events-Inv-loop : events-lts.InvT-loop
-events-Inv-loop words n deep at count i p₀ left₀ top₀ p left top = seen answers.used-events (reader.many none _also_ (reader.event words n deep) count i) ≡ raised top (seen answers.used-events (reader.many none _also_ (reader.event words n deep) left p))
+events-Inv-loop words n deep at count i p₀ left₀ top₀ p left top = seen used-events (reader.many none _also_ (reader.event words n deep) count i) ≡ raised top (seen used-events (reader.many none _also_ (reader.event words n deep) left p))
 
 abbrev events-μ-loop : events-lts.MeasureT-loop
 events-μ-loop words n deep at count i p₀ left₀ top₀ p left top = left
@@ -197,7 +197,7 @@ events-loop-less t c = omega (arith, c .before .before .before .before .before .
 
 -- src/events.rt:88:13
 events-loop-again : (t : ℕ) → events-lts.Need-loop-again (events-claims t) (events-at t) events.Post events-Inv-loop events-μ-loop
-unfolding answers.used-event
+unfolding used-event
 events-loop-again t c = rw (c .higher .ensures) (c .before .before .before .before .before .before .loop .inv ∙ rises _ _ _ _ _ (λ x t. refl) _ _ _ (c .before .before .before .before .before .loop-test .taken) (c .before .before .before .before .event .ensures) (c .before .before .s2 .given .1))
 
 -- src/events.rt:78:1
@@ -207,7 +207,7 @@ events-returns-2 t c = stop _ (c .before .before .before .word .ensures) _ _ (c 
 
 -- src/events.rt:78:1
 events-returns-3 : (t : ℕ) → events-lts.Need-returns-3 (events-claims t) (events-at t) events.Post events-Inv-loop events-μ-loop
-unfolding reader.events answers.used-event
+unfolding reader.events used-event
 events-returns-3 t c = on-word _ (c .before .before .before .before .before .word .ensures) _ _ (c .before .before .before .w2 .given .1) (rises-none _ _ _ _ _ _ _ refl (c .loop-test .left) ∙ sym (c .before .loop .inv))
 
 pub +event+events-spec : {M : Type 1} → statement M

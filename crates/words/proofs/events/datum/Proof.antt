@@ -1,6 +1,6 @@
 use Rattle.words.proofs.Laws.{off, on, last}
 use Rattle.paper.specs.Reader.{datum}
-use Rattle.paper.specs.Answers.{used-event, used-events, used-statement, used}
+use Rattle.paper.specs.Used.{used-event, used-events, used-statement, used}
 use mathlib.Core.Path.{_≡_, refl, ap, sym, _∙_}
 use borrow.Author.Needs.{needs}
 use Rattle.words.proofs.events.datum.Statement.{statement}

@@ -1,7 +1,7 @@
 use Rattle.words.proofs.Laws.{off, on, stop, on-word}
 use Rattle.paper.specs.Reader.{set}
 use Rattle.words.specs.Words.{seen}
-use Rattle.paper.specs.Answers.{used-event, used-events, used-statement, used}
+use Rattle.paper.specs.Used.{used-event, used-events, used-statement, used}
 use mathlib.Core.Path.{_≡_, refl, ap, sym, _∙_}
 use borrow.Author.Needs.{needs}
 use Rattle.words.proofs.events.set.Statement.{statement}

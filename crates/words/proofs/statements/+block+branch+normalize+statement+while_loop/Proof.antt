@@ -2,7 +2,7 @@ use Rattle.words.proofs.Laws.{stop, on-word, off, on, last, statement-s
 use borrow.Author.Tests.{eq-eqb, ne-eqb}
 use Rattle.paper.specs.Tree.{done, _then_}
 use Rattle.paper.specs.Reader as reader
-use Rattle.paper.specs.Answers as answers
+use Rattle.paper.specs.Used.{used, used-statement}
 use Rattle.words.specs.Words.{seen}
 use Prim.Native.Nat.{suc, _+_, _-_, _*_}
 use mathlib.Core.Path.{_≡_, refl, ap, sym, _∙_}
@@ -107,7 +107,7 @@ while-loop-claims t =
     (unroll-reads.Asked, unroll-reads.Learnt, event-reads.Asked, event-reads.Learnt, block-below t, block.Post, higher-reads.Asked, higher-reads.Learnt)
 
 abbrev block-Inv-loop : block-lts.InvT-loop
-block-Inv-loop words n deep loops at count i p₀ left₀ top₀ p left top = seen answers.used (reader.many done _then_ (reader.statement words n deep loops) count i) ≡ raised top (seen answers.used (reader.many done _then_ (reader.statement words n deep loops) left p))
+block-Inv-loop words n deep loops at count i p₀ left₀ top₀ p left top = seen used (reader.many done _then_ (reader.statement words n deep loops) count i) ≡ raised top (seen used (reader.many done _then_ (reader.statement words n deep loops) left p))
 
 abbrev block-μ-loop : block-lts.MeasureT-loop
 block-μ-loop words n deep loops at count i p₀ left₀ top₀ p left top = left
@@ -159,7 +159,7 @@ block-loop-less t c = omega (arith, c .before .before .before .before .before .l
 
 -- src/statements.rt:24:13
 block-loop-again : (t : ℕ) → block-lts.Need-loop-again (block-claims t) (block-at t) block.Post block-Inv-loop block-μ-loop
-unfolding answers.used-statement
+unfolding used-statement
 block-loop-again t c = rw (c .higher .ensures) (c .before .before .before .before .before .before .loop .inv ∙ rises _ _ _ _ _ (λ x t. refl) _ _ _ (c .before .before .before .before .before .loop-test .taken) (c .before .before .before .before .statement .ensures) (c .before .before .s2 .given .1))
 
 -- src/statements.rt:14:1
@@ -169,7 +169,7 @@ block-returns-2 t c = stop _ (c .before .before .before .word .ensures) _ _ (c .
 
 -- src/statements.rt:14:1
 block-returns-3 : (t : ℕ) → block-lts.Need-returns-3 (block-claims t) (block-at t) block.Post block-Inv-loop block-μ-loop
-unfolding reader.block answers.used-statement
+unfolding reader.block used-statement
 block-returns-3 t c = on-word _ (c .before .before .before .before .before .word .ensures) _ _ (c .before .before .before .w2 .given .1) (rises-none _ _ _ _ _ _ _ refl (c .loop-test .left) ∙ sym (c .before .loop .inv))
 
 -- src/statements.rt:46:9
@@ -241,7 +241,7 @@ branch-higher-requires-2 t c κs = search needs
 
 -- src/statements.rt:42:1
 branch-returns-4 : (t : ℕ) → branch-lts.Need-returns-4 (branch-claims t) (branch-at t) branch.Post
-unfolding reader.branch seen answers.used-statement
+unfolding reader.branch seen used-statement
 branch-returns-4 t c = on _ _ _ _ (c .before .before .before .before .before .before .before .before .before .before .before .before .before .event .ensures) (c .before .before .before .before .before .before .before .before .before .before .before .e .given .1) (λ x0 e0. on _ _ _ _ (c .before .before .before .before .before .before .before .before .before .block .ensures) (c .before .before .before .before .before .before .before .t .given .1) (λ x1 e1. on _ _ _ _ (c .before .before .before .before .before .block2 .ensures) (c .before .before .before .f .given .1) (λ x2 e2. cc (c .before .higher .ensures, c .higher2 .ensures))))
 
 -- src/statements.rt:84:9
@@ -271,7 +271,7 @@ normalize-block-requires t c κs = (omega (arith, c .before .before .before .bef
 
 -- src/statements.rt:80:1
 normalize-returns-2 : (t : ℕ) → normalize-lts.Need-returns-2 (normalize-claims t) (normalize-at t) normalize.Post
-unfolding reader.normalize answers.used-statement
+unfolding reader.normalize used-statement
 normalize-returns-2 t c = on _ _ _ _ (c .before .before .before .before .given .ensures) (c .before .before .g .given .1) (λ x0 e0. last _ _ _ _ (c .block .ensures) (λ _. refl))
 
 -- src/statements.rt:95:9
@@ -366,7 +366,7 @@ statement-returns-8 t c =
 
 -- src/statements.rt:92:1
 statement-returns-9 : (t : ℕ) → statement-lts.Need-returns-9 (statement-claims t) (statement-at t) statement′.Post
-unfolding reader.by-kind seen answers.used-statement
+unfolding reader.by-kind seen used-statement
 statement-returns-9 t c =
     let a = c .before .before .before .before .before .before .before .args in
     statement-kind _ _ (a .deep) _ _ (c .before .before .before .before .before .word .ensures) (a .deep - 1) (omega (arith, c .before .if1 .left)) (c .before .before .before .w2 .given .1) 6 (c .match2 .keys6) refl
@@ -450,7 +450,7 @@ while-loop-higher-requires t c κs = search needs
 
 -- src/statements.rt:61:1
 while-loop-returns-4 : (t : ℕ) → while-loop-lts.Need-returns-4 (while-loop-claims t) (while-loop-at t) while-loop.Post
-unfolding reader.while seen answers.used-statement
+unfolding reader.while seen used-statement
 while-loop-returns-4 t c = on _ _ _ _ (c .before .before .before .before .before .before .before .before .before .before .before .before .unroll .ensures) (c .before .before .before .before .before .before .before .before .before .before .u .given .1) (λ x0 e0. on _ _ _ _ (c .before .before .before .before .before .before .before .before .event .ensures) (c .before .before .before .before .before .before .e .given .1) (λ x1 e1. on _ _ _ _ (c .before .before .before .before .block .ensures) (c .before .before .b .given .1) (λ x2 e2. cc (c .higher .ensures))))
 
 pub +block+branch+normalize+statement+while-loop-spec : {M : Type 1} → statement M
