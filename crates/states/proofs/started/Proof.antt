@@ -1,12 +1,12 @@
-use Rattle.states.proofs.starts.started.Statement.{statement}
-use Rattle.states.proofs.starts.started.Tie as tie
-use Rattle.states.proofs.starts.started.Reads as reads
-use Rattle.states.proofs.starts.started.Lts as lts
+use Rattle.states.proofs.started.Statement.{statement}
+use Rattle.states.proofs.started.Tie as tie
+use Rattle.states.proofs.started.Reads as reads
+use Rattle.states.proofs.started.Lts as lts
+use Rattle.ranges.proofs.crossed.Reads as crossed-reads
+use Rattle.ranges.proofs.is_empty.Reads as is-empty-reads
 use Rattle.states.proofs.empty.Reads as empty-reads
 use Rattle.states.proofs.good.Reads as good-reads
 use Rattle.states.proofs.refused.Reads as refused-reads
-use Rattle.states.proofs.starts.crossed.Reads as crossed-reads
-use Rattle.states.proofs.starts.is_empty.Reads as is-empty-reads
 
 abbrev Inv-loop : tie.InvT-loop
 Inv-loop n start state₀ live₀ i₀ state live i = ?
@@ -14,91 +14,91 @@ Inv-loop n start state₀ live₀ i₀ state live i = ?
 abbrev μ-loop : tie.MeasureT-loop
 μ-loop n start state₀ live₀ i₀ state live i = ?
 
--- src/starts.rt:41:9
+-- src/lib.rt:199:9
 refused-requires : tie.Need-refused-requires Inv-loop μ-loop
 refused-requires c κs = ?
 
--- src/starts.rt:41:9
+-- src/lib.rt:199:9
 returns : tie.Need-returns Inv-loop μ-loop
 returns c = ?
 
--- src/starts.rt:43:21
+-- src/lib.rt:201:21
 empty-requires : tie.Need-empty-requires Inv-loop μ-loop
 empty-requires c κs = ?
 
--- src/starts.rt:46:5
+-- src/lib.rt:204:5
 loop-holds : tie.Need-loop-holds Inv-loop μ-loop
 loop-holds c = ?
 
--- src/starts.rt:47:20
+-- src/lib.rt:205:20
 mul-cell : tie.Need-mul-cell Inv-loop μ-loop
 mul-cell c = ?
 
--- src/starts.rt:47:20
+-- src/lib.rt:205:20
 element-copy-out-cell : tie.Need-element-copy-out-cell Inv-loop μ-loop
 element-copy-out-cell c = ?
 
--- src/starts.rt:49:12
+-- src/lib.rt:207:12
 crossed-requires : tie.Need-crossed-requires Inv-loop μ-loop
 crossed-requires c κs = ?
 
--- src/starts.rt:50:13
+-- src/lib.rt:208:13
 refused-requires-2 : tie.Need-refused-requires-2 Inv-loop μ-loop
 refused-requires-2 c κs = ?
 
--- src/starts.rt:50:13
+-- src/lib.rt:208:13
 returns-2 : tie.Need-returns-2 Inv-loop μ-loop
 returns-2 c = ?
 
--- src/starts.rt:52:9
+-- src/lib.rt:210:9
 mul-cell-2 : tie.Need-mul-cell-2 Inv-loop μ-loop
 mul-cell-2 c = ?
 
--- src/starts.rt:52:9
+-- src/lib.rt:210:9
 element-set-from-cell : tie.Need-element-set-from-cell Inv-loop μ-loop
 element-set-from-cell c = ?
 
--- src/starts.rt:53:9
+-- src/lib.rt:211:9
 add-i : tie.Need-add-i Inv-loop μ-loop
 add-i c = ?
 
--- src/starts.rt:54:12
+-- src/lib.rt:212:12
 is-empty-requires : tie.Need-is-empty-requires Inv-loop μ-loop
 is-empty-requires c κs = ?
 
--- src/starts.rt:46:5
+-- src/lib.rt:204:5
 loop-less : tie.Need-loop-less Inv-loop μ-loop
 loop-less c = ?
 
--- src/starts.rt:46:5
+-- src/lib.rt:204:5
 loop-again : tie.Need-loop-again Inv-loop μ-loop
 loop-again c = ?
 
--- src/starts.rt:46:5
+-- src/lib.rt:204:5
 loop-less-2 : tie.Need-loop-less-2 Inv-loop μ-loop
 loop-less-2 c = ?
 
--- src/starts.rt:46:5
+-- src/lib.rt:204:5
 loop-again-2 : tie.Need-loop-again-2 Inv-loop μ-loop
 loop-again-2 c = ?
 
--- src/starts.rt:60:9
-good-requires : tie.Need-good-requires Inv-loop μ-loop
-good-requires c κs = ?
-
--- src/starts.rt:60:9
-returns-3 : tie.Need-returns-3 Inv-loop μ-loop
-returns-3 c = ?
-
--- src/starts.rt:62:10
+-- src/lib.rt:217:21
 empty-requires-2 : tie.Need-empty-requires-2 Inv-loop μ-loop
 empty-requires-2 c κs = ?
 
--- src/starts.rt:62:5
+-- src/lib.rt:217:9
+good-requires : tie.Need-good-requires Inv-loop μ-loop
+good-requires c κs = ?
+
+-- src/lib.rt:217:9
+returns-3 : tie.Need-returns-3 Inv-loop μ-loop
+returns-3 c = ?
+
+-- src/lib.rt:220:5
 good-requires-2 : tie.Need-good-requires-2 Inv-loop μ-loop
 good-requires-2 c κs = ?
 
--- src/starts.rt:37:1
+-- src/lib.rt:195:1
 returns-4 : tie.Need-returns-4 Inv-loop μ-loop
 returns-4 c = ?
 
@@ -125,8 +125,8 @@ started-spec =
     loop-again
     loop-less-2
     loop-again-2
+    empty-requires-2
     good-requires
     returns-3
-    empty-requires-2
     good-requires-2
     returns-4)
