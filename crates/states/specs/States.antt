@@ -1,6 +1,6 @@
 -- States, as document 01 has them: empty, or one range for each of n variables.
 use mathlib.Core.Path.{_≡_, refl}
-use mathlib.Core.Bool.{Bool, true, false, cond, _&&_}
+use mathlib.Core.Bool.{Bool, true, false, cond, not, _&&_}
 use mathlib.Core.List.{List, [], _∷_}
 use Prim.Native.Nat.{ℕ, zero, suc, _+_, _≤_, _<_}
 use lib.ListN.{length, getD, set, replicate}
@@ -83,7 +83,7 @@ within n s t = cond (s .live) (cond (t .live) (every within-cells n (s .cells) (
 
 -- s equals t
 abbrev pub same : ℕ → State → State → Bool
-same n s t = cond (s .live) (cond (t .live) (every same-cells n (s .cells) (t .cells)) false) (cond (t .live) false true)
+same n s t = cond (s .live) (cond (t .live) (every same-cells n (s .cells) (t .cells)) false) (not (t .live))
 
 -- s widened by t, both not empty where the loop's rule comes to it; otherwise s
 abbrev pub widen : ℕ → State → State → State
