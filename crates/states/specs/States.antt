@@ -1,6 +1,6 @@
 -- States, as document 01 has them: empty, or one range for each of n variables.
 use mathlib.Core.Path.{_≡_, refl}
-use mathlib.Core.Bool.{Bool, true, false, cond, _&&_}
+use mathlib.Core.Bool.{Bool, true, false, cond, not, _&&_}
 use mathlib.Core.List.{List, [], _∷_}
 use Prim.Native.Nat.{ℕ, zero, suc, _+_, _≤_, _<_}
 use lib.ListN.{length, getD, set, replicate}
@@ -13,8 +13,11 @@ use Rattle.states.specs.declared.Cell.{Cell}
 abbrev pub cell : Range → Cell
 cell r = record { range = r }
 
+abbrev pub blank : Cell
+blank = cell (ranges.point 0)
+
 abbrev pub zeros : List Cell
-zeros = replicate 64 (cell (ranges.point 0))
+zeros = replicate 64 blank
 
 -- the empty state
 abbrev pub empty : State
@@ -26,7 +29,7 @@ live cs = record { live = true; cells = cs }
 
 -- the range of a variable
 abbrev pub get : State → ℕ → Range
-get s v = getD (s .cells) v (cell (ranges.point 0)) .range
+get s v = getD (s .cells) v blank .range
 
 -- a state of n variables: empty, or with a range for each that is not Empty; the other cells are as they were made
 pub record Fit (n : ℕ) (s : State) : Type 0 where
@@ -80,7 +83,7 @@ within n s t = cond (s .live) (cond (t .live) (every within-cells n (s .cells) (
 
 -- s equals t
 abbrev pub same : ℕ → State → State → Bool
-same n s t = cond (s .live) (cond (t .live) (every same-cells n (s .cells) (t .cells)) false) (cond (t .live) false true)
+same n s t = cond (s .live) (cond (t .live) (every same-cells n (s .cells) (t .cells)) false) (not (t .live))
 
 -- s widened by t, both not empty where the loop's rule comes to it; otherwise s
 abbrev pub widen : ℕ → State → State → State
