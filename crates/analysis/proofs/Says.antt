@@ -94,51 +94,41 @@ module _ {A : Type 0} {C : Type 0} (as-code : Answer A → C) (x : Noted A) (r :
 
 -- what the code's verdict says of the rules' answer
 pub answered-good : (a : Answer State) {r : code.Answer} → r ≡ answered a → r .verdict ≡ Good → a ≡ Gives (r .state)
-unfolding answered
 answered-good (Gives s) e g = cc
 answered-good (Refuses number place) e g = cc
 
 pub answered-refused : (a : Answer State) {r : code.Answer} {number place : ℕ} → r ≡ answered a → r .verdict ≡ Refused number place → a ≡ Refuses number place
-unfolding answered
 answered-refused (Gives s) e g = cc
 answered-refused (Refuses number place) e g = cc
 
 pub passed-good : (a : Answer rules.Pass) {r : Pass} → r ≡ passed a → r .verdict ≡ Good → a ≡ Gives (record { next = r .next; exit = r .exit })
-unfolding passed
 passed-good (Gives s) e g = rw e
 passed-good (Refuses number place) e g = cc
 
 pub passed-refused : (a : Answer rules.Pass) {r : Pass} {number place : ℕ} → r ≡ passed a → r .verdict ≡ Refused number place → a ≡ Refuses number place
-unfolding passed
 passed-refused (Gives s) e g = cc
 passed-refused (Refuses number place) e g = cc
 
 pub grown-good : (a : Answer rules.Settling) {r : Settling} → r ≡ grown a → r .verdict ≡ Good → a ≡ Gives (record { settled = r .settled; at = r .state; passes = r .passes })
-unfolding grown
 grown-good (Gives s) e g = rw e
 grown-good (Refuses number place) e g = cc
 
 pub grown-refused : (a : Answer rules.Settling) {r : Settling} {number place : ℕ} → r ≡ grown a → r .verdict ≡ Refused number place → a ≡ Refuses number place
-unfolding grown
 grown-refused (Gives s) e g = cc
 grown-refused (Refuses number place) e g = cc
 
 pub settled-good : (a : Answer rules.Settled) {r : Settled} → r ≡ settled-on a → r .verdict ≡ Good → a ≡ Gives (record { at = r .state; joined = r .joined; widened = r .widened })
-unfolding settled-on
 settled-good (Gives s) e g = rw e
 settled-good (Refuses number place) e g = cc
 
 pub settled-refused : (a : Answer rules.Settled) {r : Settled} {number place : ℕ} → r ≡ settled-on a → r .verdict ≡ Refused number place → a ≡ Refuses number place
-unfolding settled-on
 settled-refused (Gives s) e g = cc
 settled-refused (Refuses number place) e g = cc
 
 pub looped-good : (a : Answer rules.Looped) {r : LoopAnswer} → r ≡ looped a → r .verdict ≡ Good → (l : rules.Looped) × (a ≡ Gives l) × (l .exits ≡ r .exits)
-unfolding looped
 looped-good (Gives l) e g = (l, refl, rw e)
 looped-good (Refuses number place) e g = absurd (let z : _≡_ {A = ℕ} 0 1 = cc in omega arith)
 
 pub looped-refused : (a : Answer rules.Looped) {r : LoopAnswer} {number place : ℕ} → r ≡ looped a → r .verdict ≡ Refused number place → a ≡ Refuses number place
-unfolding looped
 looped-refused (Gives l) e g = cc
 looped-refused (Refuses number place) e g = cc

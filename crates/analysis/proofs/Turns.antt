@@ -30,7 +30,6 @@ use Rattle.analysis.proofs.Says.{answered-good, answered-refused, passe
 -- ---- what the search found
 
 found-refused : (a : Answer rules.Found) {o : Found} {number place : ℕ} → o ≡ found-by a → o ≡ Stopped number place → a ≡ Refuses number place
-unfolding found-by
 found-refused (Gives (rules.AtPass i)) e v = cc
 found-refused (Gives rules.Nowhere) e v = cc
 found-refused (Refuses number place) e v = cc
@@ -43,13 +42,11 @@ pub record Finds (a : Answer rules.Found) (o : Found) : Type 0 where
   pub unrolls : (u : ℕ) → unrolls-by u o ≡ rules.unroll-passes u found
 
 pub finds-at : (a : Answer rules.Found) {o : Found} {i : ℕ} → o ≡ found-by a → o ≡ At i → Finds a o
-unfolding found-by
 finds-at (Gives (rules.AtPass j)) e v = record { found = rules.AtPass j; gives = refl; searched = rw e; unrolls = λ u. rw e }
 finds-at (Gives rules.Nowhere) e v = record { found = rules.Nowhere; gives = refl; searched = rw e; unrolls = λ u. rw e }
 finds-at (Refuses number place) e v = absurd (let z : _≡_ {A = ℕ} 0 1 = cc in omega arith)
 
 pub finds-nowhere : (a : Answer rules.Found) {o : Found} → o ≡ found-by a → o ≡ Nowhere → Finds a o
-unfolding found-by
 finds-nowhere (Gives (rules.AtPass j)) e v = record { found = rules.AtPass j; gives = refl; searched = rw e; unrolls = λ u. rw e }
 finds-nowhere (Gives rules.Nowhere) e v = record { found = rules.Nowhere; gives = refl; searched = rw e; unrolls = λ u. rw e }
 finds-nowhere (Refuses number place) e v = absurd (let z : _≡_ {A = ℕ} 0 1 = cc in omega arith)
@@ -118,12 +115,10 @@ module _ (g : Setting) (at : ℕ) (e : Event) (b : Statements) where
           (leads-by (ap (searched rest i was) w)))
 
       pub search-refused : {number place : ℕ} → r .verdict ≡ Refused number place → Says found-by (noted.search g at e b left i s) (Stopped number place) m m₁
-      unfolding found-by
       search-refused {number} {place} v = one-search .on (Stopped number place) m₁
           (then-refused passed found-by (noted.pass g at e b s) r m m₁ q (λ p. searched rest i p (states.same (g .n) s (p .next))) (stopped v))
 
       pub search-found : r .verdict ≡ Good → states.same (g .n) s (r .next) ≡ true → Says found-by (noted.search g at e b left i s) (At i) m m₁
-      unfolding found-by
       search-found v w = after-search true v w .on (At i) m₁ (says-plain found-by (Gives (rules.AtPass i)) m₁)
 
       pub search-on : r .verdict ≡ Good → states.same (g .n) s (r .next) ≡ false → Leads found-by (noted.search g at e b left i s) m (noted.search g at e b rest (i + 1) (r .next)) m₁
@@ -165,7 +160,7 @@ module _ (g : Setting) (at : ℕ) (e : Event) (b : Statements) where
   -- ---- a stage with no pass left
 
   pub search-none : (i : ℕ) (s : State) (m : List ℕ) → Says found-by (noted.search g at e b 0 i s) Nowhere m m
-  unfolding rules.search trace.search found-by
+  unfolding rules.search trace.search
   search-none i s m = says-plain found-by (Gives rules.Nowhere) m
 
   pub unrolled-none : (t : rules.Pass) (m : List ℕ) → Says passed (noted.unrolled g at e b 0 t) (passed (Gives t)) m m

@@ -13,24 +13,24 @@ use Rattle.analysis.specs.declared.Settling as settling
 use Rattle.analysis.specs.declared.Settled as settled
 use Rattle.analysis.specs.declared.LoopAnswer as loops
 
-unfoldable pub passed : Answer rules.Pass → pass.Pass
+abbrev pub passed : Answer rules.Pass → pass.Pass
 passed (Gives p) = record { verdict = Good; next = p .next; exit = p .exit }
 passed (Refuses number place) = record { verdict = Refused number place; next = states.empty; exit = states.empty }
 
-unfoldable pub found-by : Answer rules.Found → found.Found
+abbrev pub found-by : Answer rules.Found → found.Found
 found-by (Gives (AtPass i)) = At i
 found-by (Gives Nowhere) = No-pass
 found-by (Refuses number place) = Stopped number place
 
-unfoldable pub grown : Answer rules.Settling → settling.Settling
+abbrev pub grown : Answer rules.Settling → settling.Settling
 grown (Gives s) = record { verdict = Good; settled = s .settled; state = s .at; passes = s .passes }
 grown (Refuses number place) = record { verdict = Refused number place; settled = false; state = states.empty; passes = 0 }
 
-unfoldable pub settled-on : Answer rules.Settled → settled.Settled
+abbrev pub settled-on : Answer rules.Settled → settled.Settled
 settled-on (Gives s) = record { verdict = Good; state = s .at; joined = s .joined; widened = s .widened }
 settled-on (Refuses number place) = record { verdict = Refused number place; state = states.empty; joined = 0; widened = 0 }
 
-unfoldable pub looped : Answer rules.Looped → loops.LoopAnswer
+abbrev pub looped : Answer rules.Looped → loops.LoopAnswer
 looped (Gives l) = record {
   verdict = Good;
   exits = l .exits;

@@ -1,4 +1,6 @@
 // The analysis: lists, statements, loops and normalize over checked words.
+mod outcomes;
+
 use states::State;
 use states::Verdict;
 
