@@ -3,3 +3,6 @@ pub mod Says
 pub mod Steps
 pub mod Turns
 pub mod Given
+pub mod Plains
+pub mod Cuts
+pub mod Walks

@@ -39,7 +39,7 @@ entered-block g at t s m = entered-if (s .live) at (noted.list g (at + 1) t s) m
 -- ---- lists
 
 module _ (g : Setting) (at : ℕ) (c : Statement) (cs : Statements) (s : State) where
-  abbrev rest : State → Noted State
+  abbrev pub rest : State → Noted State
   rest t = noted.list g (at + length (code.statement c)) cs t
 
   module _ {r : code-answer.Answer} {m m₁ : List ℕ} (q : Says answered (noted.statement g at c s) r m m₁) where
@@ -117,10 +117,10 @@ module _ (g : Setting) (at : ℕ) (s : State) where
 
   -- an if: its event, its then-list, its else-list
   module _ (e : Event) (t f : Statements) where
-    abbrev otherwise : rules.Sides → State → Noted State
+    abbrev pub otherwise : rules.Sides → State → Noted State
     otherwise u a = ending (noted.block g (code.else-at at e t) f (u .no)) (λ b. Gives (states.join (g .n) a b))
 
-    abbrev branches : rules.Sides → Noted State
+    abbrev pub branches : rules.Sides → Noted State
     branches u = then-noted (noted.block g (code.then-at at e) t (u .yes)) (otherwise u)
 
     pub branch-split : (m : List ℕ) {u : rules.Sides} → rules.event g (at + 1) e s ≡ Gives u → Leads answered (noted.statement g at (IfThenElse e t f) s) m (branches u) m

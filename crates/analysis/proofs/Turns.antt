@@ -20,7 +20,7 @@ use Rattle.analysis.specs.declared.Found.the-variants.{At, Nowhere, Refu
 use Rattle.analysis.specs.declared.Settling.{Settling}
 use Rattle.analysis.specs.declared.Settled.{Settled}
 use Rattle.analysis.specs.declared.LoopAnswer.{LoopAnswer}
-use Rattle.analysis.specs.Loops.{unrolls-by, searched-by}
+use Rattle.analysis.specs.Loops.{refusal-of, unrolls-by, searched-by}
 use Rattle.analysis.specs.Outcomes.{passed, found-by, grown, settled-on, looped}
 use Rattle.analysis.specs.Noted as noted
 use Rattle.analysis.specs.Noted.{Noted, plain, then-noted, from, ending, Says}
@@ -29,10 +29,10 @@ use Rattle.analysis.proofs.Says.{answered-good, answered-refused, passe
 
 -- ---- what the search found
 
-found-refused : (a : Answer rules.Found) {o : Found} {number place : ℕ} → o ≡ found-by a → o ≡ Stopped number place → a ≡ Refuses number place
-found-refused (Gives (rules.AtPass i)) e v = cc
-found-refused (Gives rules.Nowhere) e v = cc
-found-refused (Refuses number place) e v = cc
+found-refused : (a : Answer rules.Found) {o : Found} {number place : ℕ} → o ≡ found-by a → refusal-of o ≡ Refused number place → a ≡ Refuses number place
+found-refused (Gives (rules.AtPass i)) e v = let w = rw e at v in cc
+found-refused (Gives rules.Nowhere) e v = let w = rw e at v in cc
+found-refused (Refuses number place) e v = let w = rw e at v in cc
 
 -- the search was not refused, and what it found leads to the code's counts
 pub record Finds (a : Answer rules.Found) (o : Found) : Type 0 where
@@ -41,20 +41,15 @@ pub record Finds (a : Answer rules.Found) (o : Found) : Type 0 where
   pub searched : searched-by o ≡ rules.search-passes found
   pub unrolls : (u : ℕ) → unrolls-by u o ≡ rules.unroll-passes u found
 
-pub finds-at : (a : Answer rules.Found) {o : Found} {i : ℕ} → o ≡ found-by a → o ≡ At i → Finds a o
-finds-at (Gives (rules.AtPass j)) e v = record { found = rules.AtPass j; gives = refl; searched = rw e; unrolls = λ u. rw e }
-finds-at (Gives rules.Nowhere) e v = record { found = rules.Nowhere; gives = refl; searched = rw e; unrolls = λ u. rw e }
-finds-at (Refuses number place) e v = absurd (let z : _≡_ {A = ℕ} 0 1 = cc in omega arith)
-
-pub finds-nowhere : (a : Answer rules.Found) {o : Found} → o ≡ found-by a → o ≡ Nowhere → Finds a o
-finds-nowhere (Gives (rules.AtPass j)) e v = record { found = rules.AtPass j; gives = refl; searched = rw e; unrolls = λ u. rw e }
-finds-nowhere (Gives rules.Nowhere) e v = record { found = rules.Nowhere; gives = refl; searched = rw e; unrolls = λ u. rw e }
-finds-nowhere (Refuses number place) e v = absurd (let z : _≡_ {A = ℕ} 0 1 = cc in omega arith)
+pub finds : (a : Answer rules.Found) {o : Found} → o ≡ found-by a → refusal-of o ≡ Good → Finds a o
+finds (Gives (rules.AtPass j)) e v = record { found = rules.AtPass j; gives = refl; searched = rw e; unrolls = λ u. rw e }
+finds (Gives rules.Nowhere) e v = record { found = rules.Nowhere; gives = refl; searched = rw e; unrolls = λ u. rw e }
+finds (Refuses number place) e v = absurd (let w = rw e at v in let z : _≡_ {A = ℕ} 0 1 = cc in omega arith)
 
 module _ (g : Setting) (at : ℕ) (e : Event) (b : Statements) where
   -- ---- a pass: its event, its body
 
-  abbrev body-of : rules.Sides → Noted rules.Pass
+  abbrev pub body-of : rules.Sides → Noted rules.Pass
   body-of t = ending (noted.block g (code.body-at at e) b (t .yes)) (λ x. Gives (record { next = x; exit = t .no }))
 
   pub pass-split : (s : State) (m : List ℕ) {t : rules.Sides} → rules.event g (at + 3) e s ≡ Gives t → Leads passed (noted.pass g at e b s) m (body-of t) m
@@ -64,7 +59,7 @@ module _ (g : Setting) (at : ℕ) (e : Event) (b : Statements) where
   pass-refused s m q = from-refused passed (rules.event g (at + 3) e s) body-of m q
 
   module _ (t : rules.Sides) {r : code-answer.Answer} {m m₁ : List ℕ} (q : Says answered (noted.block g (code.body-at at e) b (t .yes)) r m m₁) where
-    abbrev closed : State → Answer rules.Pass
+    abbrev pub closed : State → Answer rules.Pass
     closed x = Gives (record { next = x; exit = t .no })
 
     pub body-on : r .verdict ≡ Good → Says passed (body-of t) (passed (closed (r .state))) m m₁
@@ -76,18 +71,18 @@ module _ (g : Setting) (at : ℕ) (e : Event) (b : Statements) where
   -- ---- the stages, one pass further: `left` passes are left, `rest` after this one
 
   -- after a pass of the search, by whether the new state equals the old
-  abbrev searched : ℕ → ℕ → rules.Pass → Bool → Noted rules.Found
+  abbrev pub searched : ℕ → ℕ → rules.Pass → Bool → Noted rules.Found
   searched rest i p c = record {
     answer = elim c [ true ↦ Gives (rules.AtPass i) | false ↦ noted.search g at e b rest (i + 1) (p .next) .answer ];
     places = elim c [ true ↦ [] | false ↦ noted.search g at e b rest (i + 1) (p .next) .places ];
   }
 
   -- after an unrolled pass
-  abbrev turned : ℕ → State → rules.Pass → Noted rules.Pass
+  abbrev pub turned : ℕ → State → rules.Pass → Noted rules.Pass
   turned rest exits p = noted.unrolled g at e b rest (record { next = p .next; exit = states.join (g .n) exits (p .exit) })
 
   -- after a pass by which the state s may grow, by whether the new state lies within it
-  abbrev grows : (State → State → State) → ℕ → ℕ → State → rules.Pass → Bool → Noted rules.Settling
+  abbrev pub grows : (State → State → State) → ℕ → ℕ → State → rules.Pass → Bool → Noted rules.Settling
   grows grow rest i s p c = record {
     answer = elim c [ true ↦ Gives (record { settled = true; at = s; passes = i + 1 }) | false ↦ noted.growing g at e b grow rest (i + 1) (grow s (p .next)) .answer ];
     places = elim c [ true ↦ [] | false ↦ noted.growing g at e b grow rest (i + 1) (grow s (p .next)) .places ];
@@ -95,7 +90,7 @@ module _ (g : Setting) (at : ℕ) (e : Event) (b : Statements) where
 
   module _ (left rest : ℕ) (one-more : left ≡ suc rest) (s : State) {r : Pass} {m m₁ : List ℕ} (q : Says passed (noted.pass g at e b s) r m m₁) where
     -- what the code's pass gave
-    abbrev was : rules.Pass
+    abbrev pub was : rules.Pass
     was = record { next = r .next; exit = r .exit }
 
     gave : r .verdict ≡ Good → noted.pass-by g at e b s ≡ Gives was
@@ -136,7 +131,7 @@ module _ (g : Setting) (at : ℕ) (e : Event) (b : Statements) where
       unrolled-on v = leads-then one-turn (then-good passed passed (noted.pass g at e b s) r m m₁ q (turned rest exits) (gave v))
 
     module _ (grow : State → State → State) (i : ℕ) where
-      abbrev grown-by : rules.Pass → Noted rules.Settling
+      abbrev pub grown-by : rules.Pass → Noted rules.Settling
       grown-by p = grows grow rest i s p (states.within (g .n) (p .next) s)
 
       one-growth : Leads grown (noted.growing g at e b grow left i s) m (then-noted (noted.pass g at e b s) grown-by) m
@@ -173,27 +168,27 @@ module _ (g : Setting) (at : ℕ) (e : Event) (b : Statements) where
 
   -- ---- joining, then widening
 
-  abbrev joined-by : State → ℕ → Noted rules.Settled
+  abbrev pub joined-by : State → ℕ → Noted rules.Settled
   joined-by at-last passes = plain (Gives (record { at = at-last; joined = passes; widened = 0 }))
 
-  abbrev widened-by : ℕ → rules.Settling → Answer rules.Settled
+  abbrev pub widened-by : ℕ → rules.Settling → Answer rules.Settled
   widened-by passes w = Gives (record { at = w .at; joined = passes; widened = w .passes })
 
-  abbrev widens : State → ℕ → Noted rules.Settled
+  abbrev pub widens : State → ℕ → Noted rules.Settled
   widens s passes = ending (noted.growing g at e b (states.widen (g .n)) (g .n + g .n + 1) 0 s) (widened-by passes)
 
   -- after the joining stage, by whether it settled
-  abbrev joins : State → ℕ → Bool → Noted rules.Settled
+  abbrev pub joins : State → ℕ → Bool → Noted rules.Settled
   joins s passes c = record {
     answer = elim c [ true ↦ joined-by s passes .answer | false ↦ widens s passes .answer ];
     places = elim c [ true ↦ joined-by s passes .places | false ↦ widens s passes .places ];
   }
 
-  abbrev joins-on : rules.Settling → Noted rules.Settled
+  abbrev pub joins-on : rules.Settling → Noted rules.Settled
   joins-on j = joins (j .at) (j .passes) (j .settled)
 
   module _ (s : State) {r : Settling} {m m₁ : List ℕ} (q : Says grown (noted.growing g at e b (states.join (g .n)) 100 0 s) r m m₁) where
-    abbrev joining : Noted rules.Settling
+    abbrev pub joining : Noted rules.Settling
     joining = noted.growing g at e b (states.join (g .n)) 100 0 s
 
     one-joining : Leads settled-on (noted.settle g at e b s) m (then-noted joining joins-on) m
@@ -213,7 +208,7 @@ module _ (g : Setting) (at : ℕ) (e : Event) (b : Statements) where
     joining-on v w = after-joining false v w
 
   module _ (s : State) (passes : ℕ) {r : Settling} {m m₁ : List ℕ} (q : Says grown (noted.growing g at e b (states.widen (g .n)) (g .n + g .n + 1) 0 s) r m m₁) where
-    abbrev widening : Noted rules.Settling
+    abbrev pub widening : Noted rules.Settling
     widening = noted.growing g at e b (states.widen (g .n)) (g .n + g .n + 1) 0 s
 
     pub widening-refused : {number place : ℕ} → r .verdict ≡ Refused number place → Says settled-on (widens s passes) (settled-on (Refuses number place)) m m₁
@@ -225,7 +220,7 @@ module _ (g : Setting) (at : ℕ) (e : Event) (b : Statements) where
   -- ---- the loop: search, unrolled passes, settling, exit
 
   module _ (u : ℕ) (s : State) where
-    abbrev summary : rules.Found → rules.Pass → rules.Settled → State → rules.Looped
+    abbrev pub summary : rules.Found → rules.Pass → rules.Settled → State → rules.Looped
     summary f t settled x = record {
       exits = states.join (g .n) (t .exit) x;
       turned = t .next;
@@ -236,16 +231,16 @@ module _ (g : Setting) (at : ℕ) (e : Event) (b : Statements) where
       widened = settled .widened;
     }
 
-    abbrev finish : rules.Found → rules.Pass → rules.Settled → Answer rules.Looped
+    abbrev pub finish : rules.Found → rules.Pass → rules.Settled → Answer rules.Looped
     finish f t settled = and-then (noted.exit-by g at e b (settled .at)) (λ x. Gives (summary f t settled x))
 
-    abbrev settles : rules.Found → rules.Pass → Noted rules.Looped
+    abbrev pub settles : rules.Found → rules.Pass → Noted rules.Looped
     settles f t = ending (noted.settle g at e b (t .next)) (finish f t)
 
-    abbrev turns-of : rules.Found → Noted rules.Pass
+    abbrev pub turns-of : rules.Found → Noted rules.Pass
     turns-of f = noted.unrolled g at e b (rules.unroll-passes u f) (record { next = s; exit = states.empty })
 
-    abbrev turns : rules.Found → Noted rules.Looped
+    abbrev pub turns : rules.Found → Noted rules.Looped
     turns f = then-noted (turns-of f) (settles f)
 
     one-loop : (m : List ℕ) → Leads looped (noted.loop g at e b u s) m (then-noted (noted.search g at e b 100 0 s) turns) m
@@ -253,7 +248,7 @@ module _ (g : Setting) (at : ℕ) (e : Event) (b : Statements) where
     one-loop m = leads-self
 
     module _ {o : Found} {m m₁ : List ℕ} (q : Says found-by (noted.search g at e b 100 0 s) o m m₁) where
-      pub loop-unsearched : {number place : ℕ} → o ≡ Stopped number place → Says looped (noted.loop g at e b u s) (looped (Refuses number place)) m m₁
+      pub loop-unsearched : {number place : ℕ} → refusal-of o ≡ Refused number place → Says looped (noted.loop g at e b u s) (looped (Refuses number place)) m m₁
       loop-unsearched {number} {place} v = one-loop m .on (looped (Refuses number place)) m₁
           (then-refused found-by looped (noted.search g at e b 100 0 s) o m m₁ q turns (found-refused (noted.search g at e b 100 0 s .answer) (q .out) v))
 
@@ -268,7 +263,7 @@ module _ (g : Setting) (at : ℕ) (e : Event) (b : Statements) where
       loop-turned v = then-good passed looped (turns-of f) r m m₁ q (settles f) (passed-good (turns-of f .answer) (q .out) v)
 
     module _ (f : rules.Found) (t : rules.Pass) {r : Settled} {m m₁ : List ℕ} (q : Says settled-on (noted.settle g at e b (t .next)) r m m₁) where
-      abbrev last : rules.Settled
+      abbrev pub last : rules.Settled
       last = record { at = r .state; joined = r .joined; widened = r .widened }
 
       pub loop-unsettled : {number place : ℕ} → r .verdict ≡ Refused number place → Says looped (settles f t) (looped (Refuses number place)) m m₁

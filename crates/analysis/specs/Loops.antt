@@ -2,12 +2,14 @@
 use mathlib.Core.Path.{_≡_}
 use mathlib.Core.Bool.{Bool, true, false, cond}
 use mathlib.Core.List.{List}
-use Prim.Native.Nat.{ℕ, suc, _+_, _-_, max}
+use Prim.Native.Nat.{ℕ, _+_, _-_, max, _<_}
 use lib.Dec.{ltb}
 use Rattle.ranges.specs.declared.End.the-variants.{At as End-at, Open}
 use Rattle.ranges.specs.declared.Range.{Range}
 use Rattle.ranges.specs.declared.Range.the-variants.{Empty, Span}
 use Rattle.states.specs.declared.State.{State}
+use Rattle.states.specs.declared.Verdict.{Verdict}
+use Rattle.states.specs.declared.Verdict.the-variants.{Good, Refused as Stopped}
 use Rattle.states.specs.States as states
 use Rattle.paper.specs.Tree.{Unroll, Event, Statements, While}
 use Rattle.paper.specs.Code as code
@@ -15,7 +17,8 @@ use Rattle.analysis.specs.declared.Found.{Found}
 use Rattle.analysis.specs.declared.Found.the-variants.{At, Nowhere, Refused}
 use Rattle.analysis.specs.declared.Values.{Values}
 use Rattle.analysis.specs.declared.Values.the-variants.{Unbounded, TooMany, From}
-use Rattle.paper.specs.Limits.{UnrollIn, EventIn, StatementsIn}
+use Rattle.paper.specs.Limits.{UnrollIn, Each}
+use Rattle.words.specs.Parts.{EventWithin, ListWithin}
 
 -- the words are a loop, within the limits over n variables
 pub record LoopIs (n : ℕ) (ws : List ℕ) : Type 0 where
@@ -23,16 +26,24 @@ pub record LoopIs (n : ℕ) (ws : List ℕ) : Type 0 where
   pub event : Event
   pub body : Statements
   pub is : ws ≡ code.statement (While unroll event body)
-  pub deep : ℕ
-  pub loops : ℕ
   pub few : UnrollIn unroll
-  pub event-within : EventIn n (suc deep) event
-  pub body-within : StatementsIn n deep loops body
+  pub event-within : EventWithin n event
+  pub body-within : ListWithin n body
+
+-- the words are given variables
+pub record GivenAre (n : ℕ) (ws : List ℕ) : Type 0 where
+  pub each : Each (λ v. v < n) ws
 
 -- a joining stage joins, a widening stage widens
 abbrev pub grow : ℕ → Bool → State → State → State
 grow n false = states.join n
 grow n true = states.widen n
+
+-- whether the search was refused
+abbrev pub refusal-of : Found → Verdict
+refusal-of (At i) = Good
+refusal-of Nowhere = Good
+refusal-of (Refused number place) = Stopped number place
 
 -- the unrolled passes and the search passes, by what the search found
 abbrev pub unrolls-by : ℕ → Found → ℕ

@@ -35,7 +35,7 @@ kind (While u e b) = 5
 kind Fail = 6
 kind (Normalize vs b) = 7
 
--- the variable that a statement changes, and the one that it reads besides
+-- the variable that a statement changes, and the one that it reads besides: its own where there is no other
 abbrev pub target : Statement → ℕ
 target (Sample v add d) = v
 target (Assign v add x offset) = v
@@ -45,13 +45,13 @@ target (While u e b) = 0
 target Fail = 0
 target (Normalize vs b) = 0
 
-abbrev pub read-by : Addend → ℕ
-read-by Nought = 0
-read-by (Times factor w) = w
+abbrev pub read-by : ℕ → Addend → ℕ
+read-by v Nought = v
+read-by v (Times factor w) = w
 
 abbrev pub source : Statement → ℕ
 source (Sample v add d) = v
-source (Assign v add x offset) = read-by x
+source (Assign v add x offset) = read-by v x
 source (Decrement v offset) = v
 source (IfThenElse e t f) = 0
 source (While u e b) = 0

@@ -1,5 +1,8 @@
 // The analysis: lists, statements, loops and normalize over checked words.
 mod outcomes;
+mod plain;
+mod stand;
+mod walk;
 
 use states::State;
 use states::Verdict;
@@ -52,4 +55,10 @@ pub enum Values {
     Unbounded,
     TooMany,
     From(u32, u64),
+}
+
+pub struct Sides {
+    pub verdict: Verdict,
+    pub yes: State,
+    pub no: State,
 }

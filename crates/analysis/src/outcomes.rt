@@ -14,6 +14,10 @@ ghost use Prim.Native.Nat.{ℕ, _+_, _-_, _≤_};
 ghost use Rattle.analysis.specs.Loops as stages;
 ghost use Rattle.analysis.specs.Outcomes.{passed, grown as settling, settled-on, looped};
 ghost use Rattle.states.specs.Answers.{Gives, Refuses};
+ghost use Rattle.analysis.specs.Noted.{setting};
+ghost use Rattle.paper.specs.Code as code;
+ghost use Rattle.paper.specs.Rules as rules;
+ghost use Rattle.paper.specs.Tree.{Unroll, Event, Statements, While};
 ghost use Rattle.states.specs.States as states;
 
 pub fn went(next: State, exit: State) -> Pass
@@ -90,6 +94,17 @@ pub fn not_settled(number: u64, place: usize) -> Settled
         state,
         joined: 0,
         widened: 0,
+    }
+}
+
+// Whether the search was refused.
+pub fn refusal(found: Found) -> Verdict
+    ensures { λ r. ⌜ r ≡ stages.refusal-of found ⌝ }
+{
+    match found {
+        Found::At(_) => Verdict::Good,
+        Found::Nowhere => Verdict::Good,
+        Found::Refused(number, place) => Verdict::Refused(number, place),
     }
 }
 
@@ -190,4 +205,15 @@ pub fn values(live: bool, range: Range) -> Values
             }
         },
     }
+}
+
+// How many turns a loop unrolls: its own number, else the caller's.
+pub fn turns(words: &[u64], n: usize, unroll: usize) -> usize
+    requires { ⌜ stages.LoopIs n (now words) ⌝ }
+    ensures { λ r. ⌜ ((u : Unroll) (e : Event) (b : Statements) → now (words .entry) ≡ code.statement (While u e b) → r ≡ rules.turns (setting n unroll) u) ⌝ }
+{
+    if words[1] == 1 {
+        return words[2] as usize;
+    }
+    unroll
 }
