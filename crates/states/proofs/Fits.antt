@@ -10,7 +10,7 @@ use lib.ListN.{length, getD, replicate, length-set}
 use Rattle.ranges.specs.declared.Range.{Range}
 use Rattle.ranges.specs.declared.Range.the-variants.{Empty, Span}
 use Rattle.ranges.specs.Ranges as ranges
-use Rattle.ranges.proofs.Laws as lattice
+use Rattle.ranges.proofs.Laws as laws
 use Rattle.states.specs.declared.State.{State}
 use Rattle.states.specs.declared.Cell.{Cell}
 use Rattle.states.specs.States as states
@@ -73,10 +73,10 @@ module _ (n : ℕ) (small : n ≤ 64) where
       }
 
   pub fit-join : (s t : State) → Fit n s → Fit n t → Fit n (states.join n s t)
-  fit-join = fit-together states.join-cells (λ a b. lattice.join-filled (a .range) (b .range))
+  fit-join = fit-together states.join-cells (λ a b. laws.join-filled (a .range) (b .range))
 
   pub fit-widen : (s t : State) → Fit n s → Fit n t → Fit n (states.widen n s t)
-  fit-widen = fit-together states.widen-cells (λ a b. lattice.widen-filled (a .range) (b .range))
+  fit-widen = fit-together states.widen-cells (λ a b. laws.widen-filled (a .range) (b .range))
 
 -- ---- an empty state stays empty
 
