@@ -1,9 +1,9 @@
 -- Join, within, equality and widening on states of n variables: `same` is equality, `within` an order, join the least state above both, widening above both.
-use mathlib.Core.Path.{_≡_, refl, sym, ap, _∙_, subst}
+use mathlib.Core.Path.{_≡_, refl, sym, ap, subst}
 use mathlib.Core.Bool.{Bool, true, false, false≢true}
 use mathlib.Core.Logic.{_↔_}
 use mathlib.Core.List.{List}
-use Prim.Native.Nat.{ℕ, _+_, _≤_, _<_}
+use Prim.Native.Nat.{ℕ, _≤_, _<_}
 use native.Mathlib.Omega.{arith}
 use lib.ListN.{length}
 use Rattle.ranges.specs.declared.Range.{Range}

@@ -1,7 +1,7 @@
 -- The caller's starting ranges: what `started` answers, case by case, found by going over them one at a time.
 use mathlib.Core.Path.{_≡_, refl, sym, ap, _∙_, subst}
 use mathlib.Core.Bool.{Bool, true, false, cond, false≢true}
-use mathlib.Core.List.{List, [], _∷_, _++_}
+use mathlib.Core.List.{List}
 use Prim.Native.Nat.{ℕ, zero, suc, _+_, _-_, _≤_, _<_}
 use native.Mathlib.Omega.{arith}
 use native.Mathlib.Numerals.{add-one}
@@ -10,9 +10,7 @@ use borrow.Author.Tests.{ltb-true, ltb-false, lt-ltb, le-ltb}
 use lib.Dec.{ltb}
 use lib.ListN.{length, getD, take, drop, set, replicate, length-append, length-replicate, List·getD-append}
 use lib.Seq.{take-suc, drop-cons, append-snoc, set-at, length-take-le, getD-take, getD-append-add}
-use Rattle.ranges.specs.declared.End.the-variants.{At, Open}
 use Rattle.ranges.specs.declared.Range.{Range}
-use Rattle.ranges.specs.declared.Range.the-variants.{Empty, Span}
 use Rattle.ranges.specs.Ranges as ranges
 use Rattle.ranges.proofs.Laws as laws
 use Rattle.states.specs.declared.State.{State}
@@ -48,7 +46,7 @@ module _ (n : ℕ) (cs : List Cell) where
   unfolding starts.started
   started-over h = rw (lt-ltb 64 n h, starts.started)
 
-  -- i of the ranges are seen, and the state would be live
+  -- what is left of `started` once i ranges are seen, live where none of them is Empty
   abbrev pub Seen : ℕ → Bool → Type 0
   Seen i live = starts.started n cs ≡ starts.starting (n - i) i (drop i cs) (cond live first states.empty)
 
@@ -146,7 +144,7 @@ module _ (n : ℕ) (small : n ≤ 64) (cs : List Cell) (enough : n ≤ length cs
       ap (λ (c : Cell). c .range) (ap (λ (i : ℕ). getD (starts.first-cells n cs) i states.blank) past ∙ getD-append-add (take n cs) (replicate (64 - n) states.blank) (v - n) states.blank)
       ∙ blank-at (64 - n) (v - n)
 
-  first-fit : ((w : ℕ) → w < n → ranges.is-empty (at cs w) ≡ false) → Fit n (states.live (starts.first-cells n cs))
+  pub first-fit : ((w : ℕ) → w < n → ranges.is-empty (at cs w) ≡ false) → Fit n (states.live (starts.first-cells n cs))
   first-fit filled = record {
     long = first-long;
     bare = λ l. absurd (false≢true (sym l));
@@ -154,12 +152,7 @@ module _ (n : ℕ) (small : n ≤ 64) (cs : List Cell) (enough : n ≤ length cs
     rest = first-rest;
   }
 
--- each range that it gives has its start at most at its end
-uncrossed : (r : Range) → ranges.crossed r ≡ false → laws.Proper r
-uncrossed Empty h = tt
-uncrossed (Span start (At end)) h = ltb-false end start h
-uncrossed (Span start Open) h = tt
-
+-- what `started` gives is a state of n variables, and each of its ranges has its start at most at its end
 pub record Begun (n : ℕ) (s : State) : Type 0 where
   pub fit : Fit n s
   pub proper : (v : ℕ) → v < n → laws.Proper (states.get s v)
@@ -167,10 +160,10 @@ pub record Begun (n : ℕ) (s : State) : Type 0 where
 said-begun : (n : ℕ) (cs : List Cell) → length cs ≡ 64 → (a : Answer State) → Said n cs a → Sure (Begun n) a
 said-begun n cs long a (too-many h) = refused
 said-begun n cs long a (lowest v small h q low) = refused
-said-begun n cs long a (one-empty v small proper h e) = given (record { fit = fit-empty n; proper = λ w k. rw (blank-at 64 w) (omega arith) })
+said-begun n cs long a (one-empty v small proper h e) = given (record { fit = fit-empty n; proper = λ w k. rw (blank-at 64 w) })
 said-begun n cs long a (as-given small proper filled) = given (record {
   fit = first-fit n small cs (omega arith) filled;
-  proper = λ w k. rw (first-at n small cs (omega arith) w k) (uncrossed (at cs w) (proper w k));
+  proper = λ w k. rw (first-at n small cs (omega arith) w k) (proper w k);
 })
 
 pub started-begun : (n : ℕ) (cs : List Cell) → length cs ≡ 64 → Sure (Begun n) (starts.started n cs)
