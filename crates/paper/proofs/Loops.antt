@@ -10,15 +10,16 @@ use Rattle.states.specs.declared.State.{State}
 use Rattle.states.specs.Answers.{Answer, Gives}
 use Rattle.states.specs.States as states
 use Rattle.states.specs.States.{Fit}
-use Rattle.states.proofs.Fits.{fit-empty, fit-join, fit-widen, same-live, same-dead, within-self, within-dead, left-of, left-bound, widen-falls, widen-live, join-dead}
+use Rattle.states.proofs.Fits.{fit-empty, fit-join, fit-widen, join-dead, widen-dead}
+use Rattle.states.proofs.Order.{same-eq, within-self, within-dead, within-trans, join-above-left, widen-above-old}
+use Rattle.states.proofs.Widening.{left-of, left-bound, widen-falls}
 use Rattle.paper.specs.Tree.{Event, Statements}
 use Rattle.paper.specs.Rules as rules
 use Rattle.paper.specs.Rules.{Pass, Settled, Found, AtPass, Nowhere, Settling, Looped}
 use Rattle.paper.specs.Runs.{Store, True, False, Runs, Turned, at-head, once-more, Holds}
 use Rattle.paper.specs.Promises.{Accepted, LoopHolds}
 use Rattle.paper.proofs.Sure.{Sure, given, sure-then, sure-by, sure-elim, sure-map, sure-of, sure-eq, sure-both}
-use Rattle.paper.proofs.Held.{join-left, join-right, widen-held, within-held}
-use Rattle.paper.proofs.Grows.{join-above, widen-above, within-both}
+use Rattle.paper.proofs.Held.{join-left, join-right, within-held}
 use Rattle.paper.proofs.Splits.{Kept}
 
 -- the state t holds every store to which R leads from one of s; it is well formed, and empty where s is
@@ -76,25 +77,14 @@ module _ (n : ℕ) (small : n ≤ 64) (e : Event) (b : Statements) (pass : State
   abbrev Still : State → Type 0
   Still s = Sure (λ p. states.same n s (p .next) ≡ true) (pass s)
 
-  still-next : (s : State) (p : Pass) → Fit n s → Still s → pass s ≡ Gives p → Still (p .next)
-  still-next s p f st q = go (s .live) refl
-    where
-      P : Passed n e b s p
-      P = sure-of (pass-ok s f) q
+  left-alone : (s : State) (p : Pass) → Fit n s → Still s → pass s ≡ Gives p → s ≡ p .next
+  left-alone s p f st q = same-eq n small s (p .next) f (sure-of (pass-ok s f) q .next .fit) (sure-of st q)
 
-      go : (b : Bool) → s .live ≡ b → Still (p .next)
-      go true l = subst Still (sym (same-live n small s (p .next) f (P .next .fit) l (sure-of st q))) st
-      go false d = sure-map (pass-ok (p .next) (P .next .fit)) (λ r R. same-dead n small (p .next) (r .next) (P .next .dead d) (R .next .dead (P .next .dead d)))
+  still-next : (s : State) (p : Pass) → Fit n s → Still s → pass s ≡ Gives p → Still (p .next)
+  still-next s p f st q = subst Still (left-alone s p f st q) st
 
   still-within : (s : State) (p : Pass) → Fit n s → Still s → pass s ≡ Gives p → states.within n (p .next) s ≡ true
-  still-within s p f st q = go (s .live) refl
-    where
-      P : Passed n e b s p
-      P = sure-of (pass-ok s f) q
-
-      go : (b : Bool) → s .live ≡ b → states.within n (p .next) s ≡ true
-      go true l = subst (λ (x : State). states.within n x s ≡ true) (sym (same-live n small s (p .next) f (P .next .fit) l (sure-of st q))) (within-self n small s)
-      go false d = within-dead n small (p .next) s (P .next .dead d)
+  still-within s p f st q = subst (λ (x : State). states.within n x s ≡ true) (left-alone s p f st q) (within-self n small s)
 
   -- after m passes
   StillIn : ℕ → State → Type 0
@@ -140,10 +130,10 @@ module _ (n : ℕ) (small : n ≤ 64) (e : Event) (b : Statements) (pass : State
     pub above : (s t : State) → Fit n s → Fit n t → states.within n s (grow s t) ≡ true
 
   pub join-grows : Grows (states.join n)
-  join-grows = record { fit = fit-join n small; dead = join-dead n; above = join-above n small }
+  join-grows = record { fit = fit-join n small; dead = join-dead n; above = join-above-left n small }
 
   pub widen-grows : Grows (states.widen n)
-  widen-grows = record { fit = fit-widen n small; dead = λ s t d _. widen-live n small s t ∙ d; above = widen-above n small }
+  widen-grows = record { fit = fit-widen n small; dead = widen-dead n; above = widen-above-old n small }
 
   -- from s, after at most k passes
   pub record Grown (k i : ℕ) (s : State) (j : Settling) : Type 0 where
@@ -170,7 +160,7 @@ module _ (n : ℕ) (small : n ≤ 64) (e : Event) (b : Statements) (pass : State
       sure-map (growing-ok G k (i + 1) (grow s (p .next)) grown) (λ j J. record {
         fit = J .fit;
         dead = λ d. J .dead (G .dead s (p .next) d (P .dead d));
-        above = within-both n small s (grow s (p .next)) (j .at) f grown (J .fit) (G .above s (p .next) f (P .fit)) (J .above);
+        above = within-trans n small s (grow s (p .next)) (j .at) f grown (J .fit) (G .above s (p .next) f (P .fit)) (J .above);
         accepted = J .accepted;
         few = omega (arith, J .few);
       })))
@@ -214,7 +204,7 @@ module _ (n : ℕ) (small : n ≤ 64) (e : Event) (b : Statements) (pass : State
       given (record {
         fit = W .0 .fit;
         dead = λ d. W .0 .dead (J .dead d);
-        above = within-both n small s (j .at) (w .at) f (J .fit) (W .0 .fit) (J .above) (W .0 .above);
+        above = within-trans n small s (j .at) (w .at) f (J .fit) (W .0 .fit) (J .above) (W .0 .above);
         accepted = W .0 .accepted (W .1);
         joined = omega (arith, J .few);
         widened = omega (arith, W .0 .few);

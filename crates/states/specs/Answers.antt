@@ -1,5 +1,4 @@
 -- Answers and refusals. "A refusal gives number and place, no state, no counts."
-use mathlib.Core.Bool.{Bool}
 use Prim.Native.Nat.{ℕ}
 use Rattle.states.specs.declared.State.{State}
 use Rattle.states.specs.declared.Verdict.the-variants.{Good, Refused}
@@ -17,6 +16,6 @@ and-then (Gives a) f = f a
 and-then (Refuses number place) f = Refuses number place
 
 -- an answer as the code has it: a refusal hands back the empty state
-unfoldable pub answered : Answer State → code.Answer
+abbrev pub answered : Answer State → code.Answer
 answered (Gives s) = record { verdict = Good; state = s }
 answered (Refuses number place) = record { verdict = Refused number place; state = states.empty }
