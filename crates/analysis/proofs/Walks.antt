@@ -6,7 +6,9 @@ use Prim.Native.Nat.{ℕ, suc, _+_, _-_, _*_, _<_, _≤_}
 use native.Mathlib.Omega.{arith}
 use lib.ListN.{length, getD, take, drop, set}
 use Rattle.ranges.specs.declared.Bounded.the-variants.{Is, Over}
+use Rattle.ranges.specs.declared.End.{End}
 use Rattle.ranges.specs.declared.Range.{Range}
+use Rattle.ranges.specs.declared.Range.the-variants.{Empty, Span}
 use Rattle.states.specs.declared.State.{State}
 use Rattle.states.specs.declared.Verdict.the-variants.{Good, Refused}
 use Rattle.states.specs.declared.Answer as code-answer
@@ -112,3 +114,95 @@ module _ (g : Setting) (base : ℕ) {ws : List ℕ} {p : ℕ} (e : Event) (b : S
 
     pub pass-went : a .verdict ≡ Good → Says passed (noted.pass g base e b s) (passed (Gives (record { next = a .state; exit = o .no }))) m m₂
     pass-went v = pass-on .on (passed (Gives (record { next = a .state; exit = o .no }))) m₂ (turns.body-on g base e b halves body-block v)
+
+-- ---- a list
+
+-- what is left of the list t at `at`, with so many statements left: it lies within the limits, and what it answers from here on is t's answer
+pub record Going (g : Setting) (base : ℕ) (ws : List ℕ) (s₀ : State) (m₀ : List ℕ) (t : Statements) (left at : ℕ) (s : State) (m : List ℕ) : Type 0 where
+  pub rest : Statements
+  pub is : Begins ws at (code.list rest)
+  pub counts : code.count rest ≡ left
+  pub ends : at + length (code.list rest) ≡ length ws
+  pub within : ListWithin (g .n) t → ListWithin (g .n) rest
+  pub leads : Leads answered (noted.list g (base + 1) t s₀) m₀ (noted.list g (base + at) rest s) m
+
+pub going-first : (g : Setting) (base : ℕ) (ws : List ℕ) (s : State) (m : List ℕ) (t : Statements) → ws ≡ code.program t → Going g base ws s m t (getD ws 0 0) 1 s m
+going-first g base ws s m t e = record {
+  rest = t;
+  is = begins-tail (begins-whole e);
+  counts = sym (ap (λ (l : List ℕ). getD l 0 0) e);
+  ends = sym (ap length e);
+  within = λ w. w;
+  leads = leads-self;
+}
+
+module _ {g : Setting} {base : ℕ} {ws : List ℕ} {s₀ : State} {m₀ : List ℕ} {t : Statements} {left at : ℕ} {s : State} {m : List ℕ} (G : Going g base ws s₀ m₀ t left at s m) where
+  -- no statement is left
+  pub going-last : left ≡ 0 → Says answered (noted.list g (base + 1) t s₀) (answered (Gives s)) m₀ m
+  going-last e =
+      let d = done-here (G .rest) (omega (arith, G .counts)) in
+      G .leads .on (answered (Gives s)) m (subst (λ (r : Statements). Says answered (noted.list g (base + at) r s) (answered (Gives s)) m m) (sym (d .same)) (steps.list-done g (base + at) s m))
+
+  module _ (some : 0 < left) where
+    pub going-next : NextAt ws at (G .rest)
+    going-next = next-here (G .rest) (G .is) (omega (arith, G .counts))
+
+    pub going-statement : ListWithin (g .n) t → StatementWithin (g .n) (going-next .head)
+    going-statement w = next-bounds (going-next .same) (G .within w) .0
+
+    -- it begins and ends within the words
+    pub going-inside : at + length (code.statement (going-next .head)) ≤ length ws
+    going-inside = statement-ends (going-next .head) (going-next .head-is)
+
+    pub going-part : (end : ℕ) → end ≡ at + length (code.statement (going-next .head)) → take (end - at) (drop at ws) ≡ code.statement (going-next .head)
+    going-part end e = part-is (end - at) (going-next .head-is) (omega arith)
+
+    from-next : (r : code-answer.Answer) (m₁ : List ℕ) → Says answered (noted.list g (base + at) (going-next .head then going-next .tail) s) r m m₁ → Says answered (noted.list g (base + 1) t s₀) r m₀ m₁
+    from-next r m₁ h = G .leads .on r m₁ (subst (λ (x : Statements). Says answered (noted.list g (base + at) x s) r m m₁) (sym (going-next .same)) h)
+
+    -- on with the next statement
+    going-on : (end : ℕ) (s₁ : State) (m₁ : List ℕ) → end ≡ at + length (code.statement (going-next .head)) →
+        Leads answered (noted.list g (base + at) (going-next .head then going-next .tail) s) m (noted.list g (base + at + length (code.statement (going-next .head))) (going-next .tail) s₁) m₁ →
+        Going g base ws s₀ m₀ t (left - 1) end s₁ m₁
+    going-on end s₁ m₁ e l = record {
+      rest = going-next .tail;
+      is = begins-at (sym e) (going-next .tail-is);
+      counts = omega (arith, G .counts, going-next .counts);
+      ends = omega (arith, G .ends, going-next .size);
+      within = λ w. next-bounds (going-next .same) (G .within w) .1;
+      leads = record {
+        on = λ r m₂ h. from-next r m₂ (l .on r m₂
+            (subst (λ (i : ℕ). Says answered (noted.list g i (going-next .tail) s₁) r m₁ m₂) (let q : base + end ≡ base + at + length (code.statement (going-next .head)) = omega arith in q) h));
+      };
+    }
+
+    -- a statement that was gone over
+    module _ {r : code-answer.Answer} {m₁ : List ℕ} (h : Says answered (noted.statement g (base + at) (going-next .head) s) r m m₁) where
+      pub going-refused : {number place : ℕ} → r .verdict ≡ Refused number place → Says answered (noted.list g (base + 1) t s₀) r m₀ m₁
+      going-refused v = from-next r m₁ (steps.list-refused g (base + at) (going-next .head) (going-next .tail) s h v)
+
+      pub going-good : (end : ℕ) → end ≡ at + length (code.statement (going-next .head)) → r .verdict ≡ Good → Going g base ws s₀ m₀ t (left - 1) end (r .state) m₁
+      going-good end e v = going-on end (r .state) m₁ e (steps.list-on g (base + at) (going-next .head) (going-next .tail) s h v)
+
+    -- a plain statement
+    module _ (plainly : plain.kind (going-next .head) < 4) where
+      abbrev made : Range → State
+      made r = states.put s (plain.target (going-next .head)) r
+
+      pub going-over : s .live ≡ true → Over ≡ plain.change (going-next .head) (states.get s (plain.target (going-next .head))) (states.get s (plain.source (going-next .head))) →
+          Says answered (noted.list g (base + 1) t s₀) (answered (Refuses 8 (base + at))) m₀ m
+      going-over l e = from-next (answered (Refuses 8 (base + at))) m (steps.plain-over g (base + at) s (going-next .head) (going-next .tail) plainly m l (sym e))
+
+      pub going-changed : (end : ℕ) → end ≡ at + length (code.statement (going-next .head)) → {r : Range} → Is r ≡ plain.change (going-next .head) (states.get s (plain.target (going-next .head))) (states.get s (plain.source (going-next .head))) →
+          Going g base ws s₀ m₀ t (left - 1) end (made r) m
+      going-changed end e {r} q = going-on end (made r) m e (steps.plain-on g (base + at) s (going-next .head) (going-next .tail) plainly m (sym q))
+
+      pub going-dead : (end : ℕ) → end ≡ at + length (code.statement (going-next .head)) → s .live ≡ false → Going g base ws s₀ m₀ t (left - 1) end s m
+      going-dead end e d = going-on end s m e (steps.plain-dead g (base + at) s (going-next .head) (going-next .tail) plainly m d)
+
+-- a live state with one cell changed in place
+pub put-in-place : (s : State) (v : ℕ) {r : Range} {a : ℕ} {e : End} → s .live ≡ true → r ≡ Span a e → record { live = s .live; cells = set (s .cells) v (states.cell r) } ≡ states.put s v r
+put-in-place s v {r} {a} {e} l q = rw (l, q)
+
+pub put-nothing : (s : State) (v : ℕ) {r : Range} → s .live ≡ true → r ≡ Empty → states.empty ≡ states.put s v r
+put-nothing s v {r} l q = rw (l, q)
