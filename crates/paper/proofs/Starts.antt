@@ -42,7 +42,7 @@ starting-ok : (m v : ℕ) (cs : List Cell) (s : State) → Sure (Begun s m cs) (
 unfolding starts.starting
 starting-ok zero v cs s = given (begun (λ i k. absurd (omega arith)))
 starting-ok (suc m) v [] s = given (begun (λ i k. refl))
-starting-ok (suc m) v (c ∷ cs) s = sure-elim (starts.crossed (c .range)) (λ _. refused) (λ _.
+starting-ok (suc m) v (c ∷ cs) s = sure-elim (ranges.crossed (c .range)) (λ _. refused) (λ _.
     sure-map (starting-ok m (v + 1) cs (cond (ranges.is-empty (c .range)) states.empty s)) (one-more s m c cs (ranges.is-empty (c .range)) refl))
 
 same-all : (m i : ℕ) (a : Cell) → getD (replicate m a) i a ≡ a

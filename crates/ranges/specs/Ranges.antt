@@ -27,6 +27,12 @@ abbrev pub is-empty : Range → Bool
 is-empty Empty = true
 is-empty (Span s e) = false
 
+-- a range whose start is over its end
+abbrev pub crossed : Range → Bool
+crossed Empty = false
+crossed (Span start (At end)) = ltb end start
+crossed (Span start Open) = false
+
 -- join: lower start, higher end
 abbrev pub join-ends : End → End → End
 join-ends (At x) (At y) = At (max x y)

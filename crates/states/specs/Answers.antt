@@ -17,6 +17,6 @@ and-then (Gives a) f = f a
 and-then (Refuses number place) f = Refuses number place
 
 -- an answer as the code has it: a refusal hands back the empty state
-unfoldable pub answered : Answer State → code.Answer
+abbrev pub answered : Answer State → code.Answer
 answered (Gives s) = record { verdict = Good; state = s }
 answered (Refuses number place) = record { verdict = Refused number place; state = states.empty }

@@ -13,26 +13,20 @@ use Rattle.states.specs.declared.Cell.{Cell}
 use Rattle.states.specs.States as states
 use Rattle.states.specs.Answers.{Answer, Gives, Refuses}
 
--- a range whose start is over its end
-abbrev pub crossed : Range → Bool
-crossed Empty = false
-crossed (Span start (At end)) = ltb end start
-crossed (Span start Open) = false
-
 -- the next k ranges, the first of them variable v's, by which s came about: 7 at the lowest variable whose start is over its end;
 -- one Empty makes the state empty, and 7 still applies to the others
 unfoldable pub starting : ℕ → ℕ → List Cell → State → Answer State
 starting zero v cs s = Gives s
 starting (suc k) v [] s = Gives s
 starting (suc k) v (c ∷ cs) s =
-    elim (crossed (c .range)) [
+    elim (ranges.crossed (c .range)) [
       | true ↦ Refuses 7 v
       | false ↦ starting k (v + 1) cs (cond (ranges.is-empty (c .range)) states.empty s)
     ]
 
 -- the first n of the caller's cells; those from n on are [0,0] whatever the caller has there
 abbrev pub first-cells : ℕ → List Cell → List Cell
-first-cells n cs = take n cs ++ replicate (64 - n) (states.cell (ranges.point 0))
+first-cells n cs = take n cs ++ replicate (64 - n) states.blank
 
 -- the state of the caller's first n ranges; over 64 variables is 4 at 0
 unfoldable pub started : ℕ → List Cell → Answer State
