@@ -74,7 +74,7 @@ module _ (n : ℕ) (small : n ≤ 64) where
   widen-held s t σ f g h = go (s .live) (t .live) (s .cells) (t .cells) (f .long) (g .long) h
     where
       go : (b c : Bool) (cs ds : List Cell) → length cs ≡ 64 → length ds ≡ 64 → Holds n (state b cs) σ → Holds n (states.widen n (state b cs) (state c ds)) σ
-      go false c cs ds f g h = h
+      go false c cs ds f g h = absurd (false≢true (h .live))
       go true false cs ds f g h = h
       go true true cs ds f g h = each-held states.widen-cells cs ds σ f g (λ v k. L.widen-holds (at cs v) (at ds v) (σ v) (h .each v k))
 

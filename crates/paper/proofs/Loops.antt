@@ -9,7 +9,9 @@ use borrow.Author.Tests.{eqb-true, eqb-false, ltb-true, ltb-false}
 use Rattle.states.specs.declared.State.{State}
 use Rattle.states.specs.States as states
 use Rattle.states.specs.States.{Fit}
-use Rattle.states.proofs.Fits.{fit-empty, fit-join, fit-widen, same-live, same-dead, within-self, within-dead, left-of, left-bound, widen-falls, widen-live, join-dead}
+use Rattle.states.proofs.Fits.{fit-empty, fit-join, fit-widen, join-dead, widen-dead}
+use Rattle.states.proofs.Order.{same-eq, within-self, within-dead}
+use Rattle.states.proofs.Widening.{left-of, left-bound, widen-falls}
 use Rattle.paper.specs.Rules as rules
 use Rattle.states.specs.Answers.{Answer, Gives}
 use Rattle.paper.specs.Rules.{Pass, Settled, Found, AtPass, Nowhere, Settling, Looped}
@@ -47,25 +49,14 @@ module _ (n : ℕ) (small : n ≤ 64) (pass : State → Answer Pass) (exit : Sta
   abbrev Still : State → Type 0
   Still s = Sure (λ p. states.same n s (p .next) ≡ true) (pass s)
 
-  still-next : (s : State) (p : Pass) → Fit n s → Still s → pass s ≡ Gives p → Still (p .next)
-  still-next s p f st e = go (s .live) refl
-    where
-      P : Passed n Turn Out s p
-      P = sure-of (pass-ok s f) e
+  left-alone : (s : State) (p : Pass) → Fit n s → Still s → pass s ≡ Gives p → s ≡ p .next
+  left-alone s p f st e = same-eq n small s (p .next) f (sure-of (pass-ok s f) e .next .fit) (sure-of st e)
 
-      go : (b : Bool) → s .live ≡ b → Still (p .next)
-      go true l = subst Still (sym (same-live n small s (p .next) f (P .next .fit) l (sure-of st e))) st
-      go false d = sure-map (pass-ok (p .next) (P .next .fit)) (λ q Q. same-dead n small (p .next) (q .next) (P .next .dead d) (Q .next .dead (P .next .dead d)))
+  still-next : (s : State) (p : Pass) → Fit n s → Still s → pass s ≡ Gives p → Still (p .next)
+  still-next s p f st e = subst Still (left-alone s p f st e) st
 
   still-within : (s : State) (p : Pass) → Fit n s → Still s → pass s ≡ Gives p → states.within n (p .next) s ≡ true
-  still-within s p f st e = go (s .live) refl
-    where
-      P : Passed n Turn Out s p
-      P = sure-of (pass-ok s f) e
-
-      go : (b : Bool) → s .live ≡ b → states.within n (p .next) s ≡ true
-      go true l = subst (λ (x : State). states.within n x s ≡ true) (sym (same-live n small s (p .next) f (P .next .fit) l (sure-of st e))) (within-self n small s)
-      go false d = within-dead n small (p .next) s (P .next .dead d)
+  still-within s p f st e = subst (λ (x : State). states.within n x s ≡ true) (left-alone s p f st e) (within-self n small s)
 
   -- after m passes
   StillIn : ℕ → State → Type 0
@@ -141,7 +132,7 @@ module _ (n : ℕ) (small : n ≤ 64) (pass : State → Answer Pass) (exit : Sta
   join-grows = record { fit = fit-join n small; dead = join-dead n; held = join-left n small }
 
   widen-grows : Grows (states.widen n)
-  widen-grows = record { fit = fit-widen n small; dead = λ s t d _. widen-live n small s t ∙ d; held = widen-held n small }
+  widen-grows = record { fit = fit-widen n small; dead = widen-dead n; held = widen-held n small }
 
   growing-ok : {grow : State → State → State} → Grows grow → (k i : ℕ) (s : State) → Fit n s → Sure (Grown k i s) (rules.growing n pass exit grow k i s)
   unfolding rules.growing

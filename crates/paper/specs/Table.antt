@@ -1,4 +1,4 @@
--- The table of document 01, one theorem.
+-- The table of document 01, "Proved table": its 13 rows as one theorem, by computation.
 use mathlib.Core.Path.{_≡_, refl}
 use mathlib.Core.Bool.{Bool, true, false, cond}
 use mathlib.Core.List.{List, [], _∷_}
@@ -21,6 +21,7 @@ use Rattle.paper.specs.Rules.{Setting, Looped}
 use Rattle.states.specs.Starts as starts
 use Rattle.paper.specs.Answers as answers
 
+-- the cells of one variable, and of two, that have these ranges
 abbrev pub one : Range → List Cell
 one r = set states.zeros 0 (states.cell r)
 

@@ -1,7 +1,10 @@
 // Ranges of whole numbers: what a counter can hold.
+pub mod arithmetic;
+pub mod sets;
+
 ghost use mathlib.Core.Path.{_≡_};
 ghost use Prim.Native.Nat.{min as least, max as most};
-ghost use Rattle.ranges.specs.Ranges.{is-empty, crossed, join-ends, join, within-ends, within, same-ends, same, widen-ends, widen};
+ghost use Rattle.ranges.specs.Ranges.{point, naturals, is-empty, crossed, join-ends, join, within-ends, within, same-ends, same, widen-ends, widen};
 
 // Where a range ends: at a number, or nowhere.
 pub enum End {
@@ -33,6 +36,24 @@ fn max(a: u32, b: u32) -> u32
     if a <= b { b } else { a }
 }
 
+pub fn point(x: u32) -> Range
+    ensures { λ r. ⌜ r ≡ point x ⌝ }
+{
+    Range::Span(x, End::At(x))
+}
+
+pub fn zero() -> Range
+    ensures { λ r. ⌜ r ≡ point 0 ⌝ }
+{
+    point(0)
+}
+
+pub fn naturals() -> Range
+    ensures { λ r. ⌜ r ≡ naturals ⌝ }
+{
+    Range::Span(0, End::Open)
+}
+
 pub fn is_empty(range: Range) -> bool
     ensures { λ r. ⌜ r ≡ is-empty range ⌝ }
 {
@@ -48,7 +69,7 @@ pub fn crossed(range: Range) -> bool
     match range {
         Range::Empty => false,
         Range::Span(start, end) => match end {
-            End::At(last) => last < start,
+            End::At(x) => x < start,
             End::Open => false,
         },
     }
@@ -71,9 +92,9 @@ pub fn join(a: Range, b: Range) -> Range
 {
     match a {
         Range::Empty => b,
-        Range::Span(s, e) => match b {
+        Range::Span(start1, end1) => match b {
             Range::Empty => a,
-            Range::Span(t, f) => Range::Span(min(s, t), join_ends(e, f)),
+            Range::Span(start2, end2) => Range::Span(min(start1, start2), join_ends(end1, end2)),
         },
     }
 }
@@ -95,9 +116,15 @@ pub fn within(a: Range, b: Range) -> bool
 {
     match a {
         Range::Empty => true,
-        Range::Span(s, e) => match b {
+        Range::Span(start1, end1) => match b {
             Range::Empty => false,
-            Range::Span(t, f) => { if t <= s { within_ends(e, f) } else { false } }
+            Range::Span(start2, end2) => {
+                if start2 <= start1 {
+                    within_ends(end1, end2)
+                } else {
+                    false
+                }
+            }
         },
     }
 }
@@ -125,30 +152,40 @@ pub fn same(a: Range, b: Range) -> bool
             Range::Empty => true,
             Range::Span(_, _) => false,
         },
-        Range::Span(s, e) => match b {
+        Range::Span(start1, end1) => match b {
             Range::Empty => false,
-            Range::Span(t, f) => { if s == t { same_ends(e, f) } else { false } }
+            Range::Span(start2, end2) => {
+                if start1 == start2 {
+                    same_ends(end1, end2)
+                } else {
+                    false
+                }
+            }
         },
     }
 }
 
-fn widen_ends(a: End, b: End) -> End
-    ensures { λ r. ⌜ r ≡ widen-ends a b ⌝ }
+fn widen_ends(old: End, new: End) -> End
+    ensures { λ r. ⌜ r ≡ widen-ends old new ⌝ }
 {
-    if within_ends(b, a) { a } else { End::Open }
+    if within_ends(new, old) {
+        old
+    } else {
+        End::Open
+    }
 }
 
-pub fn widen(a: Range, b: Range) -> Range
-    ensures { λ r. ⌜ r ≡ widen a b ⌝ }
+pub fn widen(old: Range, new: Range) -> Range
+    ensures { λ r. ⌜ r ≡ widen old new ⌝ }
 {
-    match a {
-        Range::Empty => a,
-        Range::Span(s, e) => match b {
-            Range::Empty => a,
-            Range::Span(t, f) => {
-                let end = widen_ends(e, f);
-                if s <= t {
-                    return Range::Span(s, end);
+    match old {
+        Range::Empty => new,
+        Range::Span(start1, end1) => match new {
+            Range::Empty => old,
+            Range::Span(start2, end2) => {
+                let end = widen_ends(end1, end2);
+                if start1 <= start2 {
+                    return Range::Span(start1, end);
                 }
                 Range::Span(0, end)
             }

@@ -1,16 +1,15 @@
--- Lists of cells: what `each` and `every` of `States` do, cell by cell, and how many bounds are left to widen.
-use mathlib.Core.Path.{_≡_, refl, sym, ap, _∙_, subst}
-use mathlib.Core.Bool.{Bool, true, false, _&&_, false≢true}
+-- Lists of cells: what `each` and `every` of `States` do, cell by cell.
+use mathlib.Core.Path.{_≡_, refl, sym, ap, subst}
+use mathlib.Core.Bool.{Bool, true, false, _&&_}
 use mathlib.Core.List.{List, [], _∷_}
-use Prim.Native.Nat.{ℕ, zero, suc, _+_, min, _≤_, _<_}
+use Prim.Native.Nat.{ℕ, zero, suc, min, _≤_, _<_}
 use native.Mathlib.Omega.{arith}
 use lib.Dec.{eqb}
 use lib.ListN.{length, getD, set}
 use lib.Seq.{getD-set-same, getD-set-other, ext-getD}
 use borrow.Author.Tests.{eqb-true, eqb-false}
 use Rattle.ranges.specs.declared.Range.{Range}
-use Rattle.ranges.specs.Ranges as ranges
-use Rattle.ranges.proofs.Laws as L
+use Rattle.ranges.proofs.Laws as laws
 use Rattle.states.specs.declared.Cell.{Cell}
 use Rattle.states.specs.States as states
 
@@ -80,15 +79,15 @@ unfolding states.every
 every-at f zero v cs ds t h a b = absurd (omega arith)
 every-at f (suc n) v [] ds t h a b = absurd (omega arith)
 every-at f (suc n) v (c ∷ cs) [] t h a b = absurd (omega arith)
-every-at f (suc n) zero (c ∷ cs) (d ∷ ds) t h a b = L.left-of (f c d) (states.every f n cs ds) t
-every-at f (suc n) (suc v) (c ∷ cs) (d ∷ ds) t h a b = every-at f n v cs ds (L.right-of (f c d) (states.every f n cs ds) t) (omega arith) (omega arith) (omega arith)
+every-at f (suc n) zero (c ∷ cs) (d ∷ ds) t h a b = laws.left-of (f c d) (states.every f n cs ds) t
+every-at f (suc n) (suc v) (c ∷ cs) (d ∷ ds) t h a b = every-at f n v cs ds (laws.right-of (f c d) (states.every f n cs ds) t) (omega arith) (omega arith) (omega arith)
 
 pub every-make : (f : Cell → Cell → Bool) (n : ℕ) (cs ds : List Cell) → ((v : ℕ) → v < n → f (cell-at cs v) (cell-at ds v) ≡ true) → states.every f n cs ds ≡ true
 unfolding states.every
 every-make f zero cs ds t = refl
 every-make f (suc n) [] ds t = refl
 every-make f (suc n) (c ∷ cs) [] t = refl
-every-make f (suc n) (c ∷ cs) (d ∷ ds) t = L.both (t 0 (omega arith)) (every-make f n cs ds (λ v h. t (suc v) (omega arith)))
+every-make f (suc n) (c ∷ cs) (d ∷ ds) t = laws.both (t 0 (omega arith)) (every-make f n cs ds (λ v h. t (suc v) (omega arith)))
 
 -- a test of one more cell
 pub every-more : (f : Cell → Cell → Bool) (i : ℕ) (cs ds : List Cell) (a b : Cell) → i < length cs → i < length ds →
@@ -96,9 +95,9 @@ pub every-more : (f : Cell → Cell → Bool) (i : ℕ) (cs ds : List Cell) (a b
 unfolding states.every
 every-more f i [] ds a b h k t q = absurd (omega arith)
 every-more f i (c ∷ cs) [] a b h k t q = absurd (omega arith)
-every-more f zero (c ∷ cs) (d ∷ ds) a b h k t q = L.both q refl
+every-more f zero (c ∷ cs) (d ∷ ds) a b h k t q = laws.both q refl
 every-more f (suc i) (c ∷ cs) (d ∷ ds) a b h k t q =
-    L.both (L.left-of (f c d) (states.every f i cs ds) t) (every-more f i cs ds a b (omega arith) (omega arith) (L.right-of (f c d) (states.every f i cs ds) t) q)
+    laws.both (laws.left-of (f c d) (states.every f i cs ds) t) (every-more f i cs ds a b (omega arith) (omega arith) (laws.right-of (f c d) (states.every f i cs ds) t) q)
 
 -- one cell that fails
 pub every-not : (f : Cell → Cell → Bool) (n i : ℕ) (cs ds : List Cell) (a b : Cell) → i < n → i < length cs → i < length ds →
@@ -132,35 +131,3 @@ set-at P cs v w r h one other = go (eqb w v) refl
 -- lists of cells with the same ranges
 pub cells-eq : (cs ds : List Cell) → length cs ≡ length ds → ((v : ℕ) → at cs v ≡ at ds v) → cs ≡ ds
 cells-eq cs ds h e = ext-getD states.blank cs ds h (λ v _. λ i. states.cell (e v i))
-
--- ---- what is left to widen
-
-unfoldable pub left : ℕ → List Cell → ℕ
-left zero cs = 0
-left (suc n) [] = 0
-left (suc n) (c ∷ cs) = L.weight (c .range) + left n cs
-
-pub left-le : (n : ℕ) (cs : List Cell) → left n cs ≤ n + n
-unfolding left
-left-le zero cs = omega arith
-left-le (suc n) [] = omega arith
-left-le (suc n) (c ∷ cs) = omega (arith, L.weight-le (c .range), left-le n cs)
-
-pub widen-left-le : (n : ℕ) (cs ds : List Cell) → left n (states.each states.widen-cells n cs ds) ≤ left n cs
-unfolding left states.each
-widen-left-le zero cs ds = omega arith
-widen-left-le (suc n) [] ds = omega arith
-widen-left-le (suc n) (c ∷ cs) [] = omega arith
-widen-left-le (suc n) (c ∷ cs) (d ∷ ds) = omega (arith, L.widen-le (c .range) (d .range), widen-left-le n cs ds)
-
-pub widen-left-lt : (n : ℕ) (cs ds : List Cell) → n ≤ length cs → ((v : ℕ) → v < n → ranges.is-empty (at cs v) ≡ false) → states.every states.within-cells n ds cs ≡ false → left n (states.each states.widen-cells n cs ds) < left n cs
-unfolding left states.each states.every
-widen-left-lt zero cs ds a full h = absurd (false≢true (sym h))
-widen-left-lt (suc n) [] ds a full h = absurd (omega arith)
-widen-left-lt (suc n) (c ∷ cs) [] a full h = absurd (false≢true (sym h))
-widen-left-lt (suc n) (c ∷ cs) (d ∷ ds) a full h = go (ranges.within (d .range) (c .range)) refl (widen-left-lt n cs ds (omega arith) (λ v k. full (suc v) (omega arith)))
-  where
-    go : (b : Bool) → ranges.within (d .range) (c .range) ≡ b → (states.every states.within-cells n ds cs ≡ false → left n (states.each states.widen-cells n cs ds) < left n cs) →
-        left (suc n) (states.each states.widen-cells (suc n) (c ∷ cs) (d ∷ ds)) < left (suc n) (c ∷ cs)
-    go true q more = omega (arith, L.widen-le (c .range) (d .range), more (sym (ap (λ (b : Bool). b && states.every states.within-cells n ds cs) q) ∙ h))
-    go false q more = omega (arith, L.widen-lt (c .range) (d .range) (full 0 (omega arith)) q, widen-left-le n cs ds)

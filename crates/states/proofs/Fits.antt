@@ -6,11 +6,11 @@ use Prim.Native.Nat.{ℕ, zero, suc, _≤_, _<_}
 use native.Mathlib.Omega.{arith}
 use lib.Dec.{ltb}
 use borrow.Author.Tests.{ltb-true, ltb-false}
-use lib.ListN.{length, getD, replicate, length-set}
+use lib.ListN.{replicate, length-set}
 use Rattle.ranges.specs.declared.Range.{Range}
 use Rattle.ranges.specs.declared.Range.the-variants.{Empty, Span}
 use Rattle.ranges.specs.Ranges as ranges
-use Rattle.ranges.proofs.Laws as lattice
+use Rattle.ranges.proofs.Laws as laws
 use Rattle.states.specs.declared.State.{State}
 use Rattle.states.specs.declared.Cell.{Cell}
 use Rattle.states.specs.States as states
@@ -73,25 +73,21 @@ module _ (n : ℕ) (small : n ≤ 64) where
       }
 
   pub fit-join : (s t : State) → Fit n s → Fit n t → Fit n (states.join n s t)
-  fit-join = fit-together states.join-cells (λ a b. lattice.join-filled (a .range) (b .range))
+  fit-join = fit-together states.join-cells (λ a b. laws.join-filled (a .range) (b .range))
 
   pub fit-widen : (s t : State) → Fit n s → Fit n t → Fit n (states.widen n s t)
-  fit-widen = fit-together states.widen-cells (λ a b. lattice.widen-filled (a .range) (b .range))
+  fit-widen = fit-together states.widen-cells (λ a b. laws.widen-filled (a .range) (b .range))
 
 -- ---- an empty state stays empty
 
 pub put-dead : (s : State) (v : ℕ) (r : Range) → s .live ≡ false → states.put s v r .live ≡ false
 put-dead s v r h = subst (λ (b : Bool). cond b (states.put-into (s .cells) v r) s .live ≡ false) (sym h) h
 
-pub together-dead : (f : Cell → Cell → Cell) (n : ℕ) (s t : State) → s .live ≡ false → t .live ≡ false → states.together f n s t .live ≡ false
+together-dead : (f : Cell → Cell → Cell) (n : ℕ) (s t : State) → s .live ≡ false → t .live ≡ false → states.together f n s t .live ≡ false
 together-dead f n s t h k = rw h k
 
--- ---- a state that is not empty stays so where it grows
+pub join-dead : (n : ℕ) (s t : State) → s .live ≡ false → t .live ≡ false → states.join n s t .live ≡ false
+join-dead = together-dead states.join-cells
 
-pub together-live : (f : Cell → Cell → Cell) (n : ℕ) (s t : State) → s .live ≡ true → states.together f n s t .live ≡ true
-together-live f n s t l = go (s .live) (t .live) (s .cells) (t .cells) l
-  where
-    go : (b c : Bool) (cs ds : List Cell) → b ≡ true → states.together f n (state b cs) (state c ds) .live ≡ true
-    go false c cs ds l = absurd (false≢true l)
-    go true false cs ds l = refl
-    go true true cs ds l = refl
+pub widen-dead : (n : ℕ) (s t : State) → s .live ≡ false → t .live ≡ false → states.widen n s t .live ≡ false
+widen-dead = together-dead states.widen-cells

@@ -1,5 +1,4 @@
 -- Answers and refusals. "A refusal gives number and place, no state, no counts."
-use mathlib.Core.Bool.{Bool}
 use Prim.Native.Nat.{ℕ}
 use Rattle.states.specs.declared.State.{State}
 use Rattle.states.specs.declared.Verdict.the-variants.{Good, Refused}
