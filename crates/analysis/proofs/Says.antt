@@ -14,8 +14,6 @@ use Rattle.analysis.specs.declared.Pass.{Pass}
 use Rattle.analysis.specs.declared.Settling.{Settling}
 use Rattle.analysis.specs.declared.Settled.{Settled}
 use Rattle.analysis.specs.declared.LoopAnswer.{LoopAnswer}
-use Rattle.analysis.specs.declared.Sides.{Sides}
-use Rattle.analysis.specs.Stand.{sided}
 use Rattle.analysis.specs.Outcomes.{passed, grown, settled-on, looped}
 use Rattle.analysis.specs.Noted.{Noted, plain, then-noted, from, ending, Says}
 
@@ -134,11 +132,3 @@ looped-good (Refuses number place) e g = absurd (let z : _≡_ {A = ℕ} 0 1 = c
 pub looped-refused : (a : Answer rules.Looped) {r : LoopAnswer} {number place : ℕ} → r ≡ looped a → r .verdict ≡ Refused number place → a ≡ Refuses number place
 looped-refused (Gives l) e g = cc
 looped-refused (Refuses number place) e g = cc
-
-pub sided-good : (a : Answer rules.Sides) {r : Sides} → r ≡ sided a → r .verdict ≡ Good → a ≡ Gives (record { yes = r .yes; no = r .no })
-sided-good (Gives s) e g = rw e
-sided-good (Refuses number place) e g = cc
-
-pub sided-refused : (a : Answer rules.Sides) {r : Sides} {number place : ℕ} → r ≡ sided a → r .verdict ≡ Refused number place → a ≡ Refuses number place
-sided-refused (Gives s) e g = cc
-sided-refused (Refuses number place) e g = cc

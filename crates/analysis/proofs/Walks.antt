@@ -6,9 +6,7 @@ use Prim.Native.Nat.{ℕ, suc, _+_, _-_, _*_, _<_, _≤_}
 use native.Mathlib.Omega.{arith}
 use lib.ListN.{length, getD, take, drop, set}
 use Rattle.ranges.specs.declared.Bounded.the-variants.{Is, Over}
-use Rattle.ranges.specs.declared.End.{End}
 use Rattle.ranges.specs.declared.Range.{Range}
-use Rattle.ranges.specs.declared.Range.the-variants.{Empty, Span}
 use Rattle.states.specs.declared.State.{State}
 use Rattle.states.specs.declared.Verdict.the-variants.{Good, Refused}
 use Rattle.states.specs.declared.Answer as code-answer
@@ -23,14 +21,15 @@ use Rattle.words.specs.Parts.{Begins, ListWithin, StatementWithin, StatementIs,
 use Rattle.words.proofs.Parts.{begins-whole, begins-at, begins-tail, part-is}
 use Rattle.words.proofs.Nodes.{NextAt, next-here, done-here, statement-some, statement-ends}
 use Rattle.words.proofs.Bounds.{next-bounds}
-use Rattle.analysis.specs.declared.Sides.{Sides}
-use Rattle.analysis.specs.Stand.{sided}
+use Rattle.events.specs.declared.Sides.{Sides}
+use Rattle.events.specs.Sided.{sided}
+use Rattle.events.proofs.Steps.{sides-given, sides-refused}
 use Rattle.analysis.specs.declared.Pass.{Pass}
 use Rattle.analysis.specs.Outcomes.{passed}
 use Rattle.analysis.specs.Noted as noted
 use Rattle.analysis.specs.Noted.{Noted, Says}
 use Rattle.analysis.specs.Plain as plain
-use Rattle.analysis.proofs.Says.{Leads, leads-self, leads-then, leads-by, sided-good, sided-refused}
+use Rattle.analysis.proofs.Says.{Leads, leads-self, leads-then, leads-by}
 use Rattle.analysis.proofs.Steps as steps
 use Rattle.analysis.proofs.Turns as turns
 use Rattle.analysis.proofs.Plains.{target-is, plain-kind}
@@ -61,11 +60,11 @@ module _ (g : Setting) (base : ℕ) {ws : List ℕ} {p q : ℕ} {c : Statement} 
 
   pub if-unsplit : {number place : ℕ} → o .verdict ≡ Refused number place → Says answered (noted.statement g base c s) (answered (Refuses number place)) m m
   if-unsplit {number} {place} v = is-if (answered (Refuses number place)) m
-      (steps.branch-refused g base s (k .event) (k .then-list) (k .else-list) m (sided-refused (rules.event g (base + 1) (k .event) s) sides v))
+      (steps.branch-refused g base s (k .event) (k .then-list) (k .else-list) m (sides-refused (rules.event g (base + 1) (k .event) s) sides v))
 
   module _ (good : o .verdict ≡ Good) {m₁ m₂ : List ℕ} (entered : m₁ ≡ marked (o .yes) (base + p) m) {a : code-answer.Answer} (went : Says answered (noted.list g (base + p + 1) (k .then-list) (o .yes)) a m₁ m₂) where
     split : Leads answered (noted.statement g base an-if s) m (steps.branches g base s (k .event) (k .then-list) (k .else-list) two) m
-    split = steps.branch-split g base s (k .event) (k .then-list) (k .else-list) m (sided-good (rules.event g (base + 1) (k .event) s) sides good)
+    split = steps.branch-split g base s (k .event) (k .then-list) (k .else-list) m (sides-given (rules.event g (base + 1) (k .event) s) sides good)
 
     then-block : Says answered (noted.block g (code.then-at base (k .event)) (k .then-list) (o .yes)) a m m₂
     then-block = block-at g (code.then-at base (k .event)) (base + p) (k .then-list) (o .yes) a m m₁ m₂ (omega (arith, k .p-is)) entered went
@@ -91,13 +90,13 @@ module _ (g : Setting) (base : ℕ) {ws : List ℕ} {p q : ℕ} {c : Statement} 
 
 module _ (g : Setting) (base : ℕ) {ws : List ℕ} {p : ℕ} (e : Event) (b : Statements) (k : LoopCut ws p e b) (s : State) (o : Sides) (sides : o ≡ sided (rules.event g (base + 3) e s)) (m : List ℕ) where
   pub pass-unsplit : {number place : ℕ} → o .verdict ≡ Refused number place → Says passed (noted.pass g base e b s) (passed (Refuses number place)) m m
-  pass-unsplit v = turns.pass-refused g base e b s m (sided-refused (rules.event g (base + 3) e s) sides v)
+  pass-unsplit v = turns.pass-refused g base e b s m (sides-refused (rules.event g (base + 3) e s) sides v)
 
   pub left-good : o .verdict ≡ Good → answered (Gives (o .no)) ≡ answered (noted.exit-by g base e b s)
-  left-good v = rw (sided-good (rules.event g (base + 3) e s) sides v)
+  left-good v = rw (sides-given (rules.event g (base + 3) e s) sides v)
 
   pub left-refused : {number place : ℕ} → o .verdict ≡ Refused number place → answered (Refuses number place) ≡ answered (noted.exit-by g base e b s)
-  left-refused v = rw (sided-refused (rules.event g (base + 3) e s) sides v)
+  left-refused v = rw (sides-refused (rules.event g (base + 3) e s) sides v)
 
   module _ (good : o .verdict ≡ Good) {m₁ m₂ : List ℕ} (entered : m₁ ≡ marked (o .yes) (base + p) m) {a : code-answer.Answer} (went : Says answered (noted.list g (base + p + 1) b (o .yes)) a m₁ m₂) where
     abbrev halves : rules.Sides
@@ -107,7 +106,7 @@ module _ (g : Setting) (base : ℕ) {ws : List ℕ} {p : ℕ} (e : Event) (b : S
     body-block = block-at g (code.body-at base e) (base + p) b (o .yes) a m m₁ m₂ (omega (arith, k .p-is)) entered went
 
     pass-on : Leads passed (noted.pass g base e b s) m (turns.body-of g base e b halves) m
-    pass-on = turns.pass-split g base e b s m (sided-good (rules.event g (base + 3) e s) sides good)
+    pass-on = turns.pass-split g base e b s m (sides-given (rules.event g (base + 3) e s) sides good)
 
     pub pass-body-refused : {number place : ℕ} → a .verdict ≡ Refused number place → Says passed (noted.pass g base e b s) (passed (Refuses number place)) m m₂
     pass-body-refused {number} {place} v = pass-on .on (passed (Refuses number place)) m₂ (turns.body-refused g base e b halves body-block v)
@@ -131,7 +130,7 @@ going-first g base ws s m t e = record {
   rest = t;
   is = begins-tail (begins-whole e);
   counts = sym (ap (λ (l : List ℕ). getD l 0 0) e);
-  ends = sym (ap length e);
+  ends = let q = ap length e in omega arith;
   within = λ w. w;
   leads = leads-self;
 }
@@ -199,10 +198,3 @@ module _ {g : Setting} {base : ℕ} {ws : List ℕ} {s₀ : State} {m₀ : List 
 
       pub going-dead : (end : ℕ) → end ≡ at + length (code.statement (going-next .head)) → s .live ≡ false → Going g base ws s₀ m₀ t (left - 1) end s m
       going-dead end e d = going-on end s m e (steps.plain-dead g (base + at) s (going-next .head) (going-next .tail) plainly m d)
-
--- a live state with one cell changed in place
-pub put-in-place : (s : State) (v : ℕ) {r : Range} {a : ℕ} {e : End} → s .live ≡ true → r ≡ Span a e → record { live = s .live; cells = set (s .cells) v (states.cell r) } ≡ states.put s v r
-put-in-place s v {r} {a} {e} l q = rw (l, q)
-
-pub put-nothing : (s : State) (v : ℕ) {r : Range} → s .live ≡ true → r ≡ Empty → states.empty ≡ states.put s v r
-put-nothing s v {r} l q = rw (l, q)

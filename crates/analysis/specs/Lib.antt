@@ -2,4 +2,3 @@ pub mod Outcomes
 pub mod Noted
 pub mod Plain
 pub mod Loops
-pub mod Stand

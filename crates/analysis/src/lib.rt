@@ -1,7 +1,6 @@
 // The analysis: lists, statements, loops and normalize over checked words.
 mod outcomes;
 mod plain;
-mod stand;
 mod walk;
 
 use states::State;
@@ -55,10 +54,4 @@ pub enum Values {
     Unbounded,
     TooMany,
     From(u32, u64),
-}
-
-pub struct Sides {
-    pub verdict: Verdict,
-    pub yes: State,
-    pub no: State,
 }

@@ -1,5 +1,5 @@
 // Plain statements: draws, assigns and decrements, from the ranges that they read to the range that they give.
-use crate::stand::drawn;
+use events::draws::drawn;
 use ranges::Bounded;
 use ranges::Range;
 use ranges::arithmetic;
