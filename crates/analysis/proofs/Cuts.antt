@@ -105,6 +105,9 @@ module _ (ws : List ℕ) (u : Unroll) (e : Event) (b : Statements) (is : ws ≡ 
         body-part = part-is (length ws - p) (begins-at (sym pe) body-here) (omega (arith, loop-size));
       }
 
+  pub loop-long : 3 ≤ length ws
+  loop-long = omega (arith, loop-size)
+
   -- its own number of turns, or the caller's
   pub own-turns : getD ws 1 0 ≡ 1 → u ≡ Turns (getD ws 2 0)
   own-turns h = let s = loop-shape .same in let k : loop-shape .unroll ≡ u = cc in sym k ∙ loop-shape .unroll-is ∙ ap (λ (i : ℕ). unroll-of i (getD ws 2 0)) h
@@ -115,6 +118,17 @@ module _ (ws : List ℕ) (u : Unroll) (e : Event) (b : Statements) (is : ws ≡ 
       let k : loop-shape .unroll ≡ u = cc in
       let z : getD ws 1 0 ≡ 0 = omega (arith, loop-shape .has-most) in
       sym k ∙ loop-shape .unroll-is ∙ ap (λ (i : ℕ). unroll-of i (getD ws 2 0)) z
+
+-- the parts of words that are a loop
+module _ {n : ℕ} {ws : List ℕ} (h : LoopIs n ws) (p : ℕ) (ends : (x : Event) → Begins ws 3 (code.event x) → p ≡ 3 + length (code.event x)) where
+  pub loop-inside : LoopCut ws p (h .event) (h .body)
+  loop-inside = loop-cut ws (h .unroll) (h .event) (h .body) (h .is) p ends
+
+  pub loop-event-is : EventIs n (take (p - 3) (drop 3 ws))
+  loop-event-is = record { tree = h .event; is = loop-inside .event-part; within = h .event-within }
+
+  pub loop-body-is : ListIs n (take (length ws - p) (drop p ws))
+  loop-body-is = record { tree = h .body; is = loop-inside .body-part; within = h .body-within }
 
 -- the words of a statement of kind 5 are a loop
 module _ {n : ℕ} (ws : List ℕ) (h : StatementIs n ws) (kind : getD ws 0 0 ≡ 5) where

@@ -17,7 +17,7 @@ use Rattle.paper.specs.Rules as rules
 use Rattle.paper.specs.Limits.{DrawIn, AddendIn}
 use Rattle.words.specs.Parts.{Begins, StatementWithin, StatementIs, DrawIs}
 use Rattle.words.proofs.Parts.{begins-whole, begins-head, part-is}
-use Rattle.words.proofs.Nodes.{addend-of, SampleAt, AssignAt, DecrementAt, sample-here, assign-here, decrement-here, statement-kind, draw-some, statement-some}
+use Rattle.words.proofs.Nodes.{begins-second, addend-of, SampleAt, AssignAt, DecrementAt, sample-here, assign-here, decrement-here, statement-kind, draw-some, statement-some}
 use Rattle.words.proofs.Bounds.{sample-bounds, assign-bounds, decrement-bounds}
 use Rattle.analysis.specs.Plain as plain
 
@@ -35,6 +35,21 @@ kind-first (IfThenElse e t f) = refl
 kind-first (While u e b) = refl
 kind-first Fail = refl
 kind-first (Normalize vs b) = refl
+
+pub begins-kind : {ws : List ℕ} {at : ℕ} (c : Statement) → Begins ws at (code.statement c) → getD ws at 0 ≡ plain.kind c
+begins-kind {ws} {at} c h = begins-head (subst (λ (l : List ℕ). Begins ws at l) (kind-first c) h)
+
+-- and a plain one's second word is the variable that it changes
+pub begins-target : {ws : List ℕ} {at : ℕ} (c : Statement) → Begins ws at (code.statement c) → plain.kind c < 4 → getD ws (at + 1) 0 ≡ plain.target c
+unfolding code.statement
+begins-target (Sample v add d) h k = begins-second h
+begins-target (Assign v add Nought offset) h k = begins-second h
+begins-target (Assign v add (Times factor w) offset) h k = begins-second h
+begins-target (Decrement v offset) h k = begins-second h
+begins-target (IfThenElse e t f) h k = absurd (omega arith)
+begins-target (While u e b) h k = absurd (omega arith)
+begins-target Fail h k = absurd (omega arith)
+begins-target (Normalize vs b) h k = absurd (omega arith)
 
 -- the shapes of a statement's words, by its kind word
 module _ (ws : List ℕ) (c : Statement) (e : ws ≡ code.statement c) where
@@ -76,17 +91,7 @@ module _ (ws : List ℕ) (c : Statement) (e : ws ≡ code.statement c) where
   pub plain-kind : plain.kind c ≡ getD ws 0 0
   plain-kind = sym (begins-head (subst (λ (l : List ℕ). Begins ws 0 l) (kind-first c) (begins-whole e)))
 
-  -- what the code takes for its variables and its change
-  pub target-is : getD ws 0 0 < 4 → getD ws 1 0 ≡ plain.target c
-  target-is k = go (getD ws 0 0) refl (statement-kind c (begins-whole e) .0) k
-    where
-      go : (kind : ℕ) → getD ws 0 0 ≡ kind → 0 < getD ws 0 0 → getD ws 0 0 < 4 → getD ws 1 0 ≡ plain.target c
-      go zero q some few = absurd (omega arith)
-      go (suc zero) q some few = let x = a-sample q in x .var-is ∙ ap plain.target (sym (x .same))
-      go (suc (suc zero)) q some few = let x = an-assign q in x .var-is ∙ ap plain.target (sym (x .same))
-      go (suc (suc (suc zero))) q some few = let x = a-decrement q in x .var-is ∙ ap plain.target (sym (x .same))
-      go (suc (suc (suc (suc k)))) q some few = absurd (omega arith)
-
+  -- what the code takes for the variable that it reads, and for its change
   pub reads-another : getD ws 0 0 ≡ 2 → getD ws 3 0 ≡ 1 → getD ws 5 0 ≡ plain.source c
   reads-another k h =
       let x = an-assign k in
@@ -153,30 +158,27 @@ module _ {n : ℕ} (ws : List ℕ) (h : StatementIs n ws) where
       let e : ws ≡ code.statement (Assign (x .var) (x .add) (x .addend) (x .offset)) = h .is ∙ ap code.statement (x .same) in
       subst (λ (l : List ℕ). getD l 4 0 ≤ ranges.top) (sym e) (factor-word (x .var) (x .offset) (x .add) (x .addend) (assign-bounds (x .same) (h .within) .1))
 
-  -- its variables are below n
-  pub target-below : getD ws 0 0 < 4 → getD ws 1 0 < n
-  target-below k = go (getD ws 0 0) refl (statement-kind (h .tree) (begins-whole (h .is)) .0) k
-    where
-      go : (kind : ℕ) → getD ws 0 0 ≡ kind → 0 < getD ws 0 0 → getD ws 0 0 < 4 → getD ws 1 0 < n
-      go zero q some few = absurd (omega arith)
-      go (suc zero) q some few = let x = a-sample ws (h .tree) (h .is) q in omega (arith, x .var-is, sample-bounds (x .same) (h .within) .0)
-      go (suc (suc zero)) q some few = let x = an-assign ws (h .tree) (h .is) q in omega (arith, x .var-is, assign-bounds (x .same) (h .within) .0)
-      go (suc (suc (suc zero))) q some few = let x = a-decrement ws (h .tree) (h .is) q in omega (arith, x .var-is, decrement-bounds (x .same) (h .within) .0)
-      go (suc (suc (suc (suc k)))) q some few = absurd (omega arith)
-
+-- a plain statement's variables are below n
+module _ {n : ℕ} where
   addend-below : (v : ℕ) (x : Addend) → v < n → AddendIn n x → plain.read-by v x < n
   unfolding AddendIn
   addend-below v Nought b a = b
   addend-below v (Times factor w) b a = a .1
 
-  source-in : (c : Statement) → StatementWithin n c → plain.kind c < 4 → plain.source c < n
-  source-in (Sample v add d) w k = sample-bounds refl w .0
-  source-in (Assign v add x offset) w k = addend-below v x (assign-bounds refl w .0) (assign-bounds refl w .1)
-  source-in (Decrement v offset) w k = decrement-bounds refl w .0
-  source-in (IfThenElse e t f) w k = absurd (omega arith)
-  source-in (While u e b) w k = absurd (omega arith)
-  source-in Fail w k = absurd (omega arith)
-  source-in (Normalize vs b) w k = absurd (omega arith)
+  pub target-below : (c : Statement) → StatementWithin n c → plain.kind c < 4 → plain.target c < n
+  target-below (Sample v add d) w k = sample-bounds refl w .0
+  target-below (Assign v add x offset) w k = assign-bounds refl w .0
+  target-below (Decrement v offset) w k = decrement-bounds refl w .0
+  target-below (IfThenElse e t f) w k = absurd (omega arith)
+  target-below (While u e b) w k = absurd (omega arith)
+  target-below Fail w k = absurd (omega arith)
+  target-below (Normalize vs b) w k = absurd (omega arith)
 
-  pub source-below : getD ws 0 0 < 4 → plain.source (h .tree) < n
-  source-below k = source-in (h .tree) (h .within) (omega (arith, plain-kind ws (h .tree) (h .is)))
+  pub source-below : (c : Statement) → StatementWithin n c → plain.kind c < 4 → plain.source c < n
+  source-below (Sample v add d) w k = sample-bounds refl w .0
+  source-below (Assign v add x offset) w k = addend-below v x (assign-bounds refl w .0) (assign-bounds refl w .1)
+  source-below (Decrement v offset) w k = decrement-bounds refl w .0
+  source-below (IfThenElse e t f) w k = absurd (omega arith)
+  source-below (While u e b) w k = absurd (omega arith)
+  source-below Fail w k = absurd (omega arith)
+  source-below (Normalize vs b) w k = absurd (omega arith)

@@ -2,7 +2,7 @@
 use mathlib.Core.Path.{_≡_, refl, sym, ap, _∙_}
 use mathlib.Core.Bool.{Bool, true, false}
 use mathlib.Core.List.{List, [], _∷_, _++_, append-nil}
-use Prim.Native.Nat.{ℕ, zero, suc, _+_, _-_}
+use Prim.Native.Nat.{ℕ, zero, suc, _+_, _-_, _<_, _≤_}
 use native.Mathlib.Omega.{arith}
 use Rattle.states.specs.declared.State.{State}
 use Rattle.states.specs.declared.Verdict.the-variants.{Good, Refused}
@@ -33,6 +33,29 @@ found-refused : (a : Answer rules.Found) {o : Found} {number place : ℕ} → o 
 found-refused (Gives (rules.AtPass i)) e v = let w = rw e at v in cc
 found-refused (Gives rules.Nowhere) e v = let w = rw e at v in cc
 found-refused (Refuses number place) e v = let w = rw e at v in cc
+
+-- an index found is below the number of passes
+module _ (n : ℕ) (pass : State → Answer rules.Pass) (exit : State → Answer State) where
+  search-below : (k i : ℕ) (s : State) (j : ℕ) → rules.search n pass exit k i s ≡ Gives (rules.AtPass j) → j < i + k
+  unfolding rules.search
+  search-below zero i s j e = absurd (let z : _≡_ {A = ℕ} 0 1 = cc in omega arith)
+  search-below (suc k) i s j e = by-pass (pass s) e
+    where
+      by-test : (p : rules.Pass) (c : Bool) → elim c [ true ↦ Gives (rules.AtPass i) | false ↦ rules.search n pass exit k (i + 1) (p .next) ] ≡ Gives (rules.AtPass j) → j < i + suc k
+      by-test p true q = let h : i ≡ j = cc in omega arith
+      by-test p false q = omega (arith, search-below k (i + 1) (p .next) j q)
+
+      by-pass : (a : Answer rules.Pass) → and-then a (λ p. elim (states.same n s (p .next)) [ true ↦ Gives (rules.AtPass i) | false ↦ rules.search n pass exit k (i + 1) (p .next) ]) ≡ Gives (rules.AtPass j) → j < i + suc k
+      by-pass (Gives p) q = by-test p (states.same n s (p .next)) q
+      by-pass (Refuses number place) q = absurd (let z : _≡_ {A = ℕ} 0 1 = cc in omega arith)
+
+few-searched : (a : Answer rules.Found) {o : Found} → ((j : ℕ) → a ≡ Gives (rules.AtPass j) → j < 100) → o ≡ found-by a → searched-by o ≤ 100
+few-searched (Gives (rules.AtPass j)) h e = rw e (omega (arith, h j refl))
+few-searched (Gives rules.Nowhere) h e = rw e (omega arith)
+few-searched (Refuses number place) h e = rw e (omega arith)
+
+pub search-few : (g : Setting) (at : ℕ) (e : Event) (b : Statements) (s : State) {o : Found} {m m₁ : List ℕ} → Says found-by (noted.search g at e b 100 0 s) o m m₁ → searched-by o ≤ 100
+search-few g at e b s q = few-searched (noted.search g at e b 100 0 s .answer) (λ j h. omega (arith, search-below (g .n) (noted.pass-by g at e b) (noted.exit-by g at e b) 100 0 s j h)) (q .out)
 
 -- the search was not refused, and what it found leads to the code's counts
 pub record Finds (a : Answer rules.Found) (o : Found) : Type 0 where
@@ -154,17 +177,20 @@ module _ (g : Setting) (at : ℕ) (e : Event) (b : Statements) where
 
   -- ---- a stage with no pass left
 
-  pub search-none : (i : ℕ) (s : State) (m : List ℕ) → Says found-by (noted.search g at e b 0 i s) Nowhere m m
-  unfolding rules.search trace.search
-  search-none i s m = says-plain found-by (Gives rules.Nowhere) m
+  module _ (left : ℕ) (none : left ≡ 0) where
+    pub search-none : (i : ℕ) (s : State) (m : List ℕ) → Says found-by (noted.search g at e b left i s) Nowhere m m
+    unfolding rules.search trace.search
+    search-none i s m = leads-by (ap (λ (k : ℕ). noted.search g at e b k i s) none) .on Nowhere m (says-plain found-by (Gives rules.Nowhere) m)
 
-  pub unrolled-none : (t : rules.Pass) (m : List ℕ) → Says passed (noted.unrolled g at e b 0 t) (passed (Gives t)) m m
-  unfolding rules.unrolled trace.unrolled
-  unrolled-none t m = says-plain passed (Gives t) m
+    pub unrolled-none : (t : rules.Pass) (m : List ℕ) → Says passed (noted.unrolled g at e b left t) (passed (Gives t)) m m
+    unfolding rules.unrolled trace.unrolled
+    unrolled-none t m = leads-by (ap (λ (k : ℕ). noted.unrolled g at e b k t) none) .on (passed (Gives t)) m (says-plain passed (Gives t) m)
 
-  pub growing-none : (grow : State → State → State) (i : ℕ) (s : State) (m : List ℕ) → Says grown (noted.growing g at e b grow 0 i s) (grown (Gives (record { settled = false; at = s; passes = i }))) m m
-  unfolding rules.growing trace.growing
-  growing-none grow i s m = says-plain grown (Gives (record { settled = false; at = s; passes = i })) m
+    pub growing-none : (grow : State → State → State) (i : ℕ) (s : State) (m : List ℕ) →
+        Says grown (noted.growing g at e b grow left i s) (grown (Gives (record { settled = false; at = s; passes = i }))) m m
+    unfolding rules.growing trace.growing
+    growing-none grow i s m = leads-by (ap (λ (k : ℕ). noted.growing g at e b grow k i s) none) .on (grown (Gives (record { settled = false; at = s; passes = i }))) m
+        (says-plain grown (Gives (record { settled = false; at = s; passes = i })) m)
 
   -- ---- joining, then widening
 
@@ -255,12 +281,15 @@ module _ (g : Setting) (at : ℕ) (e : Event) (b : Statements) where
       pub loop-searched : (f : Finds (noted.search g at e b 100 0 s .answer) o) → Leads looped (noted.loop g at e b u s) m (turns (f .found)) m₁
       loop-searched f = leads-then (one-loop m) (then-good found-by looped (noted.search g at e b 100 0 s) o m m₁ q turns (f .gives))
 
-    module _ (f : rules.Found) {r : Pass} {m m₁ : List ℕ} (q : Says passed (turns-of f) r m m₁) where
+    module _ (f : rules.Found) (k : ℕ) (many : k ≡ rules.unroll-passes u f) {r : Pass} {m m₁ : List ℕ} (q : Says passed (noted.unrolled g at e b k (record { next = s; exit = states.empty })) r m m₁) where
+      turned-so : Says passed (turns-of f) r m m₁
+      turned-so = leads-by (ap (λ (i : ℕ). noted.unrolled g at e b i (record { next = s; exit = states.empty })) (sym many)) .on r m₁ q
+
       pub loop-unturned : {number place : ℕ} → r .verdict ≡ Refused number place → Says looped (turns f) (looped (Refuses number place)) m m₁
-      loop-unturned v = then-refused passed looped (turns-of f) r m m₁ q (settles f) (passed-refused (turns-of f .answer) (q .out) v)
+      loop-unturned v = then-refused passed looped (turns-of f) r m m₁ turned-so (settles f) (passed-refused (turns-of f .answer) (turned-so .out) v)
 
       pub loop-turned : r .verdict ≡ Good → Leads looped (turns f) m (settles f (record { next = r .next; exit = r .exit })) m₁
-      loop-turned v = then-good passed looped (turns-of f) r m m₁ q (settles f) (passed-good (turns-of f .answer) (q .out) v)
+      loop-turned v = then-good passed looped (turns-of f) r m m₁ turned-so (settles f) (passed-good (turns-of f .answer) (turned-so .out) v)
 
     module _ (f : rules.Found) (t : rules.Pass) {r : Settled} {m m₁ : List ℕ} (q : Says settled-on (noted.settle g at e b (t .next)) r m m₁) where
       abbrev pub last : rules.Settled

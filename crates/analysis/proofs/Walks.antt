@@ -19,7 +19,7 @@ use Rattle.paper.specs.Trace as trace
 use Rattle.paper.specs.Tree.{Unroll, Event, Statement, IfThenElse, While, Fail, Normalize, Statements, done, _then_}
 use Rattle.words.specs.Parts.{Begins, ListWithin, StatementWithin, StatementIs, ListIs}
 use Rattle.words.proofs.Parts.{begins-whole, begins-at, begins-tail, part-is}
-use Rattle.words.proofs.Nodes.{NextAt, next-here, done-here, statement-some, statement-ends}
+use Rattle.words.proofs.Nodes.{NextAt, next-here, statement-kind, fail-here, done-here, statement-some, statement-ends}
 use Rattle.words.proofs.Bounds.{next-bounds}
 use Rattle.events.specs.declared.Sides.{Sides}
 use Rattle.events.specs.Sided.{sided}
@@ -32,8 +32,9 @@ use Rattle.analysis.specs.Plain as plain
 use Rattle.analysis.proofs.Says.{Leads, leads-self, leads-then, leads-by}
 use Rattle.analysis.proofs.Steps as steps
 use Rattle.analysis.proofs.Turns as turns
-use Rattle.analysis.proofs.Plains.{target-is, plain-kind}
-use Rattle.analysis.proofs.Cuts.{BranchCut, LoopCut}
+use Rattle.analysis.proofs.Plains.{plain-kind, begins-kind, begins-target}
+use Rattle.analysis.proofs.Cuts.{BranchCut, LoopCut, NormalizeCut}
+use Rattle.analysis.proofs.Given.{normalize-is}
 
 -- the marks after a list at a place is entered from a state
 abbrev pub marked : State → ℕ → List ℕ → List ℕ
@@ -113,6 +114,22 @@ module _ (g : Setting) (base : ℕ) {ws : List ℕ} {p : ℕ} (e : Event) (b : S
 
     pub pass-went : a .verdict ≡ Good → Says passed (noted.pass g base e b s) (passed (Gives (record { next = a .state; exit = o .no }))) m m₂
     pass-went v = pass-on .on (passed (Gives (record { next = a .state; exit = o .no }))) m₂ (turns.body-on g base e b halves body-block v)
+
+-- ---- a normalize and a fail
+
+pub normalize-whole : (g : Setting) (base : ℕ) {ws : List ℕ} {p : ℕ} {c : Statement} (k : NormalizeCut ws p c) (s : State) {r : code-answer.Answer} {m m₁ : List ℕ} →
+    Says answered (noted.normalized g (base + 2) (take (p - 2) (drop 2 ws)) (base + p) (k .body) s) r m m₁ → Says answered (noted.statement g base c s) r m m₁
+normalize-whole g base {ws} {p} {c} k s {r} {m} {m₁} h =
+    let e : base + p ≡ code.normalized-at base (k .given) = omega (arith, k .p-is) in
+    let given : Says answered (noted.normalized g (base + 2) (k .given) (base + p) (k .body) s) r m m₁ = subst (λ (l : List ℕ). Says answered (noted.normalized g (base + 2) l (base + p) (k .body) s) r m m₁) (k .given-part) h in
+    let placed : Says answered (noted.normalized g (base + 2) (k .given) (code.normalized-at base (k .given)) (k .body) s) r m m₁ = subst (λ (i : ℕ). Says answered (noted.normalized g (base + 2) (k .given) i (k .body) s) r m m₁) e given in
+    subst (λ (d : Statement). Says answered (noted.statement g base d s) r m m₁) (sym (k .same))
+    (subst (λ (x : Noted State). Says answered x r m m₁) (sym (normalize-is g base (k .given) (k .body) s)) placed)
+
+pub only-fail : {ws : List ℕ} (c : Statement) → ws ≡ code.statement c → 4 ≤ getD ws 0 0 → (getD ws 0 0 ≡ 4 → ⊥) → (getD ws 0 0 ≡ 5 → ⊥) → (getD ws 0 0 ≡ 7 → ⊥) → c ≡ Fail
+only-fail {ws} c e least no-if no-loop no-normalize =
+    let k = statement-kind c (begins-whole e) in
+    fail-here c (begins-whole e) (let q : getD ws 0 0 ≡ 6 = omega (arith, k .0, k .1) in q) .same
 
 -- ---- a list
 
@@ -198,3 +215,17 @@ module _ {g : Setting} {base : ℕ} {ws : List ℕ} {s₀ : State} {m₀ : List 
 
       pub going-dead : (end : ℕ) → end ≡ at + length (code.statement (going-next .head)) → s .live ≡ false → Going g base ws s₀ m₀ t (left - 1) end s m
       going-dead end e d = going-on end s m e (steps.plain-dead g (base + at) s (going-next .head) (going-next .tail) plainly m d)
+
+    -- its words, where the code reads them
+    pub going-kind : getD ws at 0 ≡ plain.kind (going-next .head)
+    going-kind = begins-kind (going-next .head) (going-next .head-is)
+
+    pub going-own : plain.kind (going-next .head) < 4 → getD ws (at + 1) 0 ≡ plain.target (going-next .head)
+    going-own k = begins-target (going-next .head) (going-next .head-is) k
+
+    module _ (w : ListWithin (g .n) t) (end : ℕ) (e : end ≡ at + length (code.statement (going-next .head))) where
+      pub going-is : StatementIs (g .n) (take (end - at) (drop at ws))
+      going-is = record { tree = going-next .head; is = going-part end e; within = going-statement w }
+
+      pub going-first-word : getD (take (end - at) (drop at ws)) 0 0 ≡ getD ws at 0
+      going-first-word = sym (plain-kind (take (end - at) (drop at ws)) (going-next .head) (going-part end e)) ∙ sym going-kind

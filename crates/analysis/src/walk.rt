@@ -7,7 +7,7 @@ use crate::Settling;
 use crate::Values;
 use crate::outcomes;
 use crate::plain;
-use events::sides;
+use events::event;
 use ranges::Bounded;
 use ranges::End;
 use ranges::Range;
@@ -129,7 +129,7 @@ fn branch(words: &[u64], base: usize, n: usize, unroll: usize, state: State, mar
 {
     let then = ends::event_end(words, 1);
     let otherwise = ends::list_end(words, then);
-    let t = sides::sides(&words[1..then], base + 1, n, state);
+    let t = event::sides(&words[1..then], base + 1, n, state);
     let verdict = t.verdict;
     if let Verdict::Refused(number, place) = verdict {
         return states::refused(number, place);
@@ -163,7 +163,7 @@ fn pass(words: &[u64], base: usize, n: usize, unroll: usize, state: State, marks
     ensures { λ r. ⌜ ((u : Unroll) (e : Event) (b : Statements) → now (words .entry) ≡ code.statement (While u e b) → Says passed (noted.pass (setting n unroll) base e b state) r (now (marks .entry)) (now (marks .exit))) ⌝ }
 {
     let body = ends::event_end(words, 3);
-    let t = sides::sides(&words[3..body], base + 3, n, state);
+    let t = event::sides(&words[3..body], base + 3, n, state);
     let verdict = t.verdict;
     if let Verdict::Refused(number, place) = verdict {
         return outcomes::stopped(number, place);
@@ -311,7 +311,7 @@ fn leave(words: &[u64], base: usize, n: usize, state: State) -> Answer
     ensures { λ r. ⌜ ((d : ℕ) (u : Unroll) (e : Event) (b : Statements) → now (words .entry) ≡ code.statement (While u e b) → r ≡ answered (noted.exit-by (setting n d) base e b state)) ⌝ }
 {
     let body = ends::event_end(words, 3);
-    let t = sides::sides(&words[3..body], base + 3, n, state);
+    let t = event::sides(&words[3..body], base + 3, n, state);
     let verdict = t.verdict;
     if let Verdict::Refused(number, place) = verdict {
         return states::refused(number, place);

@@ -16,7 +16,6 @@ use Rattle.analysis.proofs.plain.change.Lts as lts
 use Rattle.analysis.proofs.plain.kept.Reads as kept-reads
 use Rattle.analysis.proofs.plain.product.Reads as product-reads
 use Rattle.analysis.proofs.plain.summed.Reads as summed-reads
-use Rattle.analysis.proofs.stand.drawn.Reads as drawn-reads
 use Rattle.ranges.proofs.arithmetic.less.Reads as less-reads
 use Rattle.ranges.proofs.arithmetic.sum.Reads as sum-reads
 

@@ -1,36 +1,45 @@
+use Rattle.analysis.proofs.Walks.{left-good, left-refused}
+use Rattle.analysis.proofs.Cuts.{LoopCut, loop-cut, loop-event, loop-event-is, loop-inside}
+use Rattle.analysis.specs.Noted.{setting}
+use Rattle.words.specs.Parts.{EventIs}
+use lib.ListN.{length}
+use native.Mathlib.Omega.{arith}
+use mathlib.Core.List.{[]}
+use mathlib.Core.Path.{_≡_, sym, ap, _∙_}
 use borrow.Author.Needs.{needs}
 use Rattle.analysis.proofs.walk.leave.Statement.{statement}
 use Rattle.analysis.proofs.walk.leave.Tie as tie
 use Rattle.analysis.proofs.walk.leave.Reads as reads
 use Rattle.analysis.proofs.walk.leave.Lts as lts
-use Rattle.analysis.proofs.stand.sides.Reads as sides-reads
 use Rattle.states.proofs.good.Reads as good-reads
 use Rattle.states.proofs.refused.Reads as refused-reads
 use Rattle.words.proofs.ends.event_end.Reads as event-end-reads
 
 -- src/walk.rt:313:9
 event-end-requires : tie.Need-event-end-requires
-event-end-requires c κs = ?
+event-end-requires c κs = loop-event (c .before .args .words .now) (c .before .pre .0 .unroll) (c .before .pre .0 .event) (c .before .pre .0 .body) (c .before .pre .0 .is)
 
 -- src/walk.rt:314:26
 sub-sides : tie.Need-sub-sides
-sub-sides c = ?
+sub-sides c = let k = loop-inside (c .before .before .pre .0) (c .event-end .result) (c .event-end .ensures) in omega (arith, k .some, c .before .before .good .0 .0)
 
 -- src/walk.rt:314:26
 part-sides-start : tie.Need-part-sides-start
-part-sides-start c = ?
+part-sides-start c = let k = loop-inside (c .before .before .pre .0) (c .event-end .result) (c .event-end .ensures) in omega (arith, k .some)
 
 -- src/walk.rt:314:26
 part-sides-end : tie.Need-part-sides-end
-part-sides-end c = ?
+part-sides-end c = let k = loop-inside (c .before .before .pre .0) (c .event-end .result) (c .event-end .ensures) in omega (arith, k .whole)
 
 -- src/walk.rt:314:43
 add-sides : tie.Need-add-sides
-add-sides c = ?
+add-sides c = let k = loop-inside (c .before .before .before .pre .0) (c .before .event-end .result) (c .before .event-end .ensures) in omega (arith, k .whole, k .some, c .before .before .before .pre .1 .1)
 
 -- src/walk.rt:314:9
 sides-requires : tie.Need-sides-requires
-sides-requires c κs = ?
+sides-requires c κs =
+    let k = loop-inside (c .before .before .before .pre .0) (c .before .event-end .result) (c .before .event-end .ensures) in
+    (loop-event-is (c .before .before .before .pre .0) (c .before .event-end .result) (c .before .event-end .ensures), (c .before .before .before .pre .1 .0, omega (arith, k .whole, k .some, k .p-is, ap length (k .event-part), c .before .before .before .pre .1 .1)))
 
 -- src/walk.rt:316:29
 enum-known-verdict : tie.Need-enum-known-verdict
@@ -42,7 +51,9 @@ refused-requires c κs = search needs
 
 -- src/walk.rt:317:9
 returns : tie.Need-returns
-returns c = ?
+returns c =
+    λ d u e b is. let k = loop-cut (c .before .before .before .before .before .before .before .before .args .words .now) u e b is (c .before .before .before .before .before .before .event-end .result) (c .before .before .before .before .before .before .event-end .ensures) in
+    c .refused .ensures ∙ left-refused (setting (c .before .before .before .before .before .before .before .before .args .n) d) (c .before .before .before .before .before .before .before .before .args .base) e b k (c .before .before .before .before .before .before .before .before .args .state) (c .before .before .before .before .sides .result) (c .before .before .before .before .sides .ensures d e (k .event-part)) [] (c .before .before .verdict .given .1)
 
 enum-told : tie.Need-enum-told
 enum-told c = search needs
@@ -53,7 +64,9 @@ good-requires c κs = search needs
 
 -- src/walk.rt:307:1
 returns-2 : tie.Need-returns-2
-returns-2 c = ?
+returns-2 c =
+    λ d u e b is. let k = loop-cut (c .before .before .before .before .before .before .before .before .args .words .now) u e b is (c .before .before .before .before .before .before .event-end .result) (c .before .before .before .before .before .before .event-end .ensures) in
+    c .good2 .ensures ∙ left-good (setting (c .before .before .before .before .before .before .before .before .args .n) d) (c .before .before .before .before .before .before .before .before .args .base) e b k (c .before .before .before .before .before .before .before .before .args .state) (c .before .before .before .before .sides .result) (c .before .before .before .before .sides .ensures d e (k .event-part)) [] (c .before .before .enum-told .given .1)
 
 pub leave-spec : {M : Type 1} → statement M
 leave-spec =

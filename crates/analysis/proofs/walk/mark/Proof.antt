@@ -14,11 +14,11 @@ same-length c = search needs
 
 -- src/walk.rt:36:1
 returns : tie.Need-returns
-returns c = ?
+returns c = rw (c .if1 .taken)
 
 -- src/walk.rt:36:1
 returns-2 : tie.Need-returns-2
-returns-2 c = search needs
+returns-2 c = rw (c .if1 .left)
 
 pub mark-spec : {M : Type 1} → statement M
 mark-spec = tie.close (tie.spec slice-write-marks same-length returns returns-2)
