@@ -39,15 +39,17 @@ module _ (n : ℕ) (pass : State → Answer rules.Pass) (exit : State → Answer
   search-below : (k i : ℕ) (s : State) (j : ℕ) → rules.search n pass exit k i s ≡ Gives (rules.AtPass j) → j < i + k
   unfolding rules.search
   search-below zero i s j e = absurd (let z : _≡_ {A = ℕ} 0 1 = cc in omega arith)
-  search-below (suc k) i s j e = by-pass (pass s) e
+  search-below (suc k) i s j e = by-pass (pass s) (λ t q. search-below k (i + 1) t j q) e
     where
-      by-test : (p : rules.Pass) (c : Bool) → elim c [ true ↦ Gives (rules.AtPass i) | false ↦ rules.search n pass exit k (i + 1) (p .next) ] ≡ Gives (rules.AtPass j) → j < i + suc k
-      by-test p true q = let h : i ≡ j = cc in omega arith
-      by-test p false q = omega (arith, search-below k (i + 1) (p .next) j q)
+      by-test : (p : rules.Pass) (c : Bool) → ((t : State) → rules.search n pass exit k (i + 1) t ≡ Gives (rules.AtPass j) → j < i + 1 + k) →
+          elim c [ true ↦ Gives (rules.AtPass i) | false ↦ rules.search n pass exit k (i + 1) (p .next) ] ≡ Gives (rules.AtPass j) → j < i + suc k
+      by-test p true more q = let h : i ≡ j = cc in omega arith
+      by-test p false more q = omega (arith, more (p .next) q)
 
-      by-pass : (a : Answer rules.Pass) → and-then a (λ p. elim (states.same n s (p .next)) [ true ↦ Gives (rules.AtPass i) | false ↦ rules.search n pass exit k (i + 1) (p .next) ]) ≡ Gives (rules.AtPass j) → j < i + suc k
-      by-pass (Gives p) q = by-test p (states.same n s (p .next)) q
-      by-pass (Refuses number place) q = absurd (let z : _≡_ {A = ℕ} 0 1 = cc in omega arith)
+      by-pass : (a : Answer rules.Pass) → ((t : State) → rules.search n pass exit k (i + 1) t ≡ Gives (rules.AtPass j) → j < i + 1 + k) →
+          and-then a (λ p. elim (states.same n s (p .next)) [ true ↦ Gives (rules.AtPass i) | false ↦ rules.search n pass exit k (i + 1) (p .next) ]) ≡ Gives (rules.AtPass j) → j < i + suc k
+      by-pass (Gives p) more q = by-test p (states.same n s (p .next)) more q
+      by-pass (Refuses number place) more q = absurd (let z : _≡_ {A = ℕ} 0 1 = cc in omega arith)
 
 few-searched : (a : Answer rules.Found) {o : Found} → ((j : ℕ) → a ≡ Gives (rules.AtPass j) → j < 100) → o ≡ found-by a → searched-by o ≤ 100
 few-searched (Gives (rules.AtPass j)) h e = rw e (omega (arith, h j refl))

@@ -32,9 +32,12 @@ use Rattle.analysis.specs.Plain as plain
 use Rattle.analysis.proofs.Says.{Leads, leads-self, leads-then, leads-by}
 use Rattle.analysis.proofs.Steps as steps
 use Rattle.analysis.proofs.Turns as turns
-use Rattle.analysis.proofs.Plains.{plain-kind, begins-kind, begins-target}
+use Rattle.analysis.proofs.Plains.{plain-kind, plain-long, begins-kind, begins-target}
 use Rattle.analysis.proofs.Cuts.{BranchCut, LoopCut, NormalizeCut}
 use Rattle.analysis.proofs.Given.{normalize-is}
+
+pub kind-below : {a b : ℕ} → a ≡ b → a < 4 → b < 4
+kind-below e h = omega arith
 
 -- the marks after a list at a place is entered from a state
 abbrev pub marked : State → ℕ → List ℕ → List ℕ
@@ -222,6 +225,9 @@ module _ {g : Setting} {base : ℕ} {ws : List ℕ} {s₀ : State} {m₀ : List 
 
     pub going-own : plain.kind (going-next .head) < 4 → getD ws (at + 1) 0 ≡ plain.target (going-next .head)
     going-own k = begins-target (going-next .head) (going-next .head-is) k
+
+    pub going-long : getD ws at 0 < 4 → 3 ≤ length (code.statement (going-next .head))
+    going-long k = plain-long (code.statement (going-next .head)) (going-next .head) refl (omega (arith, going-kind, plain-kind (code.statement (going-next .head)) (going-next .head) refl))
 
     module _ (w : ListWithin (g .n) t) (end : ℕ) (e : end ≡ at + length (code.statement (going-next .head))) where
       pub going-is : StatementIs (g .n) (take (end - at) (drop at ws))

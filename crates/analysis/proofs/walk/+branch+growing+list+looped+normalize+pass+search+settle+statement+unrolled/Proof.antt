@@ -96,6 +96,7 @@ use Rattle.analysis.proofs.walk.+branch+growing+list+looped+normalize+p
   statement,
 }
 use Rattle.analysis.proofs.walk.+branch+growing+list+looped+normalize+pass+search+settle+statement+unrolled.Tie.{
+
   close,
 }
 
@@ -622,98 +623,293 @@ growing-returns-3 t c =
         rw (c .grown2 .ensures) (l .inv .1 .1 u e b h .on _ _ (turns-laws.growing-none g (s .args .base) e b (s .args .most - l .i) none by (l .i) (l .s) (l .marks)))
 
 abbrev list-Inv-loop : list-lts.InvT-loop
-list-Inv-loop words base n unroll marks₀ s₀ left₀ at₀ marks s left at = ?
+list-Inv-loop words base n unroll marks₀ s₀ left₀ at₀ marks s left at = (0 < at) × ((length marks ≡ length marks₀) × ((length (s .cells) ≡ 64) × ((t : Statements) → words ≡ code.program t → Going (setting n unroll) base words s₀ marks₀ t left at s marks)))
 
 abbrev list-μ-loop : list-lts.MeasureT-loop
-list-μ-loop words base n unroll marks₀ s₀ left₀ at₀ marks s left at = ?
+list-μ-loop words base n unroll marks₀ s₀ left₀ at₀ marks s left at = left
 
 -- src/walk.rt:54:20
 list-shared-slice-read-left : (t : ℕ) → list-lts.Need-shared-slice-read-left (list-claims t) (list-at t) list.Post list-Inv-loop list-μ-loop
-list-shared-slice-read-left t c = ?
+list-shared-slice-read-left t c =
+    let p = c .before .before .before .pre .1 .0 in
+    omega (arith, ap length (p .is))
 
 -- src/walk.rt:56:5
 list-loop-holds : (t : ℕ) → list-lts.Need-loop-holds (list-claims t) (list-at t) list.Post list-Inv-loop list-μ-loop
-list-loop-holds t c = ?
+list-loop-holds t c =
+    let s = c .before .before .before in
+    (omega arith, (refl, (state-long (s .args .state) (s .good .1 .1 .1 .1 .0), λ t h. walks.going-first (setting (s .args .n) (s .args .unroll)) (s .args .base) (s .args .words .now) (s .args .state) (s .args .marks .now) t h)))
 
 -- src/walk.rt:57:13
 list-statement-end-requires : (t : ℕ) → list-lts.Need-statement-end-requires (list-claims t) (list-at t) list.Post list-Inv-loop list-μ-loop
-list-statement-end-requires t c κs = ?
+list-statement-end-requires t c κs =
+    let s = c .before .before .before .before .before in
+    let p = s .pre .1 .0 in
+    let l = c .before .loop in
+    let G = l .inv .1 .1 .1 (p .tree) (p .is) in
+    let some = c .loop-test .taken in
+    let x = walks.going-next G some in
+    record { tree = x .head; is = x .head-is }
 
 -- src/walk.rt:58:12
 list-mul-if1 : (t : ℕ) → list-lts.Need-mul-if1 (list-claims t) (list-at t) list.Post list-Inv-loop list-μ-loop
-list-mul-if1 t c = ?
+list-mul-if1 t c =
+    let s = c .before .before .before .before .before .before in
+    let p = s .pre .1 .0 in
+    let l = c .before .before .loop in
+    let G = l .inv .1 .1 .1 (p .tree) (p .is) in
+    let some = c .before .loop-test .taken in
+    let x = walks.going-next G some in
+    let e = c .statement-end .ensures (x .head) (x .head-is) in
+    let inside = walks.going-inside G some in
+    omega (arith, inside, statement-some (x .head), s .good .0 .0, s .good .0 .1, s .pre .1 .1 .1 .1)
 
 -- src/walk.rt:58:12
 list-shared-slice-read-if1 : (t : ℕ) → list-lts.Need-shared-slice-read-if1 (list-claims t) (list-at t) list.Post list-Inv-loop list-μ-loop
-list-shared-slice-read-if1 t c = ?
+list-shared-slice-read-if1 t c =
+    let s = c .before .before .before .before .before .before .before in
+    let p = s .pre .1 .0 in
+    let l = c .before .before .before .loop in
+    let G = l .inv .1 .1 .1 (p .tree) (p .is) in
+    let some = c .before .before .loop-test .taken in
+    let x = walks.going-next G some in
+    let e = c .before .statement-end .ensures (x .head) (x .head-is) in
+    let inside = walks.going-inside G some in
+    omega (arith, inside, statement-some (x .head), s .good .0 .0, s .good .0 .1, s .pre .1 .1 .1 .1)
 
 -- src/walk.rt:60:33
 list-add-own : (t : ℕ) → list-lts.Need-add-own (list-claims t) (list-at t) list.Post list-Inv-loop list-μ-loop
-list-add-own t c = ?
+list-add-own t c =
+    let s = c .before .before .before .before .before .before .before .before .before in
+    let p = s .pre .1 .0 in
+    let l = c .before .before .before .before .before .loop in
+    let G = l .inv .1 .1 .1 (p .tree) (p .is) in
+    let some = c .before .before .before .before .loop-test .taken in
+    let x = walks.going-next G some in
+    let e = c .before .before .before .statement-end .ensures (x .head) (x .head-is) in
+    let inside = walks.going-inside G some in
+    let long = walks.going-long G some (c .before .if1 .taken) in
+    omega (arith, inside, long, s .good .0 .0, s .good .0 .1)
 
 -- src/walk.rt:60:27
 list-mul-own : (t : ℕ) → list-lts.Need-mul-own (list-claims t) (list-at t) list.Post list-Inv-loop list-μ-loop
-list-mul-own t c = ?
+list-mul-own t c =
+    let s = c .before .before .before .before .before .before .before .before .before in
+    let p = s .pre .1 .0 in
+    let l = c .before .before .before .before .before .loop in
+    let G = l .inv .1 .1 .1 (p .tree) (p .is) in
+    let some = c .before .before .before .before .loop-test .taken in
+    let x = walks.going-next G some in
+    let e = c .before .before .before .statement-end .ensures (x .head) (x .head-is) in
+    let inside = walks.going-inside G some in
+    let long = walks.going-long G some (c .before .if1 .taken) in
+    omega (arith, inside, long, s .good .0 .0, s .good .0 .1)
 
 -- src/walk.rt:60:27
 list-shared-slice-read-own : (t : ℕ) → list-lts.Need-shared-slice-read-own (list-claims t) (list-at t) list.Post list-Inv-loop list-μ-loop
-list-shared-slice-read-own t c = ?
+list-shared-slice-read-own t c =
+    let s = c .before .before .before .before .before .before .before .before .before .before in
+    let p = s .pre .1 .0 in
+    let l = c .before .before .before .before .before .before .loop in
+    let G = l .inv .1 .1 .1 (p .tree) (p .is) in
+    let some = c .before .before .before .before .before .loop-test .taken in
+    let x = walks.going-next G some in
+    let e = c .before .before .before .before .statement-end .ensures (x .head) (x .head-is) in
+    let inside = walks.going-inside G some in
+    let long = walks.going-long G some (c .before .before .if1 .taken) in
+    omega (arith, inside, long, s .good .0 .0, s .good .0 .1)
 
 -- src/walk.rt:61:44
 list-mul-source : (t : ℕ) → list-lts.Need-mul-source (list-claims t) (list-at t) list.Post list-Inv-loop list-μ-loop
-list-mul-source t c = ?
+list-mul-source t c =
+    let s = c .before .before .before .before .before .before .before .before .before .before in
+    let p = s .pre .1 .0 in
+    let l = c .before .before .before .before .before .before .loop in
+    let G = l .inv .1 .1 .1 (p .tree) (p .is) in
+    let some = c .before .before .before .before .before .loop-test .taken in
+    let x = walks.going-next G some in
+    let e = c .before .before .before .before .statement-end .ensures (x .head) (x .head-is) in
+    let inside = walks.going-inside G some in
+    omega (arith, inside, statement-some (x .head), s .good .0 .0, s .good .0 .1, s .pre .1 .1 .1 .1)
 
 -- src/walk.rt:61:44
 list-sub-source : (t : ℕ) → list-lts.Need-sub-source (list-claims t) (list-at t) list.Post list-Inv-loop list-μ-loop
-list-sub-source t c = ?
+list-sub-source t c =
+    let s = c .before .before .before .before .before .before .before .before .before .before in
+    let p = s .pre .1 .0 in
+    let l = c .before .before .before .before .before .before .loop in
+    let G = l .inv .1 .1 .1 (p .tree) (p .is) in
+    let some = c .before .before .before .before .before .loop-test .taken in
+    let x = walks.going-next G some in
+    let e = c .before .before .before .before .statement-end .ensures (x .head) (x .head-is) in
+    let inside = walks.going-inside G some in
+    omega (arith, inside, statement-some (x .head), s .good .0 .0, s .good .0 .1, s .pre .1 .1 .1 .1)
 
 -- src/walk.rt:61:44
 list-part-source-start : (t : ℕ) → list-lts.Need-part-source-start (list-claims t) (list-at t) list.Post list-Inv-loop list-μ-loop
-list-part-source-start t c = ?
+list-part-source-start t c =
+    let s = c .before .before .before .before .before .before .before .before .before .before in
+    let p = s .pre .1 .0 in
+    let l = c .before .before .before .before .before .before .loop in
+    let G = l .inv .1 .1 .1 (p .tree) (p .is) in
+    let some = c .before .before .before .before .before .loop-test .taken in
+    let x = walks.going-next G some in
+    let e = c .before .before .before .before .statement-end .ensures (x .head) (x .head-is) in
+    let inside = walks.going-inside G some in
+    omega (arith, inside, statement-some (x .head), s .good .0 .0, s .good .0 .1, s .pre .1 .1 .1 .1)
 
 -- src/walk.rt:61:44
 list-part-source-end : (t : ℕ) → list-lts.Need-part-source-end (list-claims t) (list-at t) list.Post list-Inv-loop list-μ-loop
-list-part-source-end t c = ?
+list-part-source-end t c =
+    let s = c .before .before .before .before .before .before .before .before .before .before in
+    let p = s .pre .1 .0 in
+    let l = c .before .before .before .before .before .before .loop in
+    let G = l .inv .1 .1 .1 (p .tree) (p .is) in
+    let some = c .before .before .before .before .before .loop-test .taken in
+    let x = walks.going-next G some in
+    let e = c .before .before .before .before .statement-end .ensures (x .head) (x .head-is) in
+    let inside = walks.going-inside G some in
+    omega (arith, inside, statement-some (x .head), s .good .0 .0, s .good .0 .1, s .pre .1 .1 .1 .1)
 
 -- src/walk.rt:61:21
 list-source-requires : (t : ℕ) → list-lts.Need-source-requires (list-claims t) (list-at t) list.Post list-Inv-loop list-μ-loop
-list-source-requires t c κs = ?
+list-source-requires t c κs =
+    let s = c .before .before .before .before .before .before .before .before .before .before .before in
+    let p = s .pre .1 .0 in
+    let l = c .before .before .before .before .before .before .before .loop in
+    let G = l .inv .1 .1 .1 (p .tree) (p .is) in
+    let some = c .before .before .before .before .before .before .loop-test .taken in
+    let x = walks.going-next G some in
+    let e = c .before .before .before .before .before .statement-end .ensures (x .head) (x .head-is) in
+    let inside = walks.going-inside G some in
+    (walks.going-is G some (p .within) (c .before .before .before .before .before .statement-end .result) e, omega (arith, walks.going-first-word G some (p .within) (c .before .before .before .before .before .statement-end .result) e, c .before .before .before .if1 .taken))
 
 -- src/walk.rt:62:28
 list-mul-cell : (t : ℕ) → list-lts.Need-mul-cell (list-claims t) (list-at t) list.Post list-Inv-loop list-μ-loop
-list-mul-cell t c = ?
+list-mul-cell t c =
+    let s = c .before .before .before .before .before .before .before .before .before .before .before .before in
+    let p = s .pre .1 .0 in
+    let l = c .before .before .before .before .before .before .before .before .loop in
+    let G = l .inv .1 .1 .1 (p .tree) (p .is) in
+    let some = c .before .before .before .before .before .before .before .loop-test .taken in
+    let x = walks.going-next G some in
+    let e = c .before .before .before .before .before .before .statement-end .ensures (x .head) (x .head-is) in
+    let inside = walks.going-inside G some in
+    let k = walks.kind-below (walks.going-kind G some) (c .before .before .before .before .if1 .taken) in
+    let w = walks.going-statement G some (p .within) in
+    omega (arith, walks.going-own G some k, target-below (x .head) w k, s .pre .1 .1 .0)
 
 -- src/walk.rt:62:28
 list-element-copy-out-cell : (t : ℕ) → list-lts.Need-element-copy-out-cell (list-claims t) (list-at t) list.Post list-Inv-loop list-μ-loop
-list-element-copy-out-cell t c = ?
+list-element-copy-out-cell t c =
+    let s = c .before .before .before .before .before .before .before .before .before .before .before .before in
+    let p = s .pre .1 .0 in
+    let l = c .before .before .before .before .before .before .before .before .loop in
+    let G = l .inv .1 .1 .1 (p .tree) (p .is) in
+    let some = c .before .before .before .before .before .before .before .loop-test .taken in
+    let x = walks.going-next G some in
+    let e = c .before .before .before .before .before .before .statement-end .ensures (x .head) (x .head-is) in
+    let inside = walks.going-inside G some in
+    let k = walks.kind-below (walks.going-kind G some) (c .before .before .before .before .if1 .taken) in
+    let w = walks.going-statement G some (p .within) in
+    omega (arith, walks.going-own G some k, target-below (x .head) w k, s .pre .1 .1 .0)
 
 -- src/walk.rt:63:29
 list-mul-other : (t : ℕ) → list-lts.Need-mul-other (list-claims t) (list-at t) list.Post list-Inv-loop list-μ-loop
-list-mul-other t c = ?
+list-mul-other t c =
+    let s = c .before .before .before .before .before .before .before .before .before .before .before .before .before in
+    let p = s .pre .1 .0 in
+    let l = c .before .before .before .before .before .before .before .before .before .loop in
+    let G = l .inv .1 .1 .1 (p .tree) (p .is) in
+    let some = c .before .before .before .before .before .before .before .before .loop-test .taken in
+    let x = walks.going-next G some in
+    let e = c .before .before .before .before .before .before .before .statement-end .ensures (x .head) (x .head-is) in
+    let inside = walks.going-inside G some in
+    let k = walks.kind-below (walks.going-kind G some) (c .before .before .before .before .before .if1 .taken) in
+    let w = walks.going-statement G some (p .within) in
+    let f = c .before .source .ensures (x .head) (walks.going-part G some (c .before .before .before .before .before .before .before .statement-end .result) e) in
+    omega (arith, f, source-below (x .head) w k, s .pre .1 .1 .0)
 
 -- src/walk.rt:63:29
 list-element-copy-out-other : (t : ℕ) → list-lts.Need-element-copy-out-other (list-claims t) (list-at t) list.Post list-Inv-loop list-μ-loop
-list-element-copy-out-other t c = ?
+list-element-copy-out-other t c =
+    let s = c .before .before .before .before .before .before .before .before .before .before .before .before .before in
+    let p = s .pre .1 .0 in
+    let l = c .before .before .before .before .before .before .before .before .before .loop in
+    let G = l .inv .1 .1 .1 (p .tree) (p .is) in
+    let some = c .before .before .before .before .before .before .before .before .loop-test .taken in
+    let x = walks.going-next G some in
+    let e = c .before .before .before .before .before .before .before .statement-end .ensures (x .head) (x .head-is) in
+    let inside = walks.going-inside G some in
+    let k = walks.kind-below (walks.going-kind G some) (c .before .before .before .before .before .if1 .taken) in
+    let w = walks.going-statement G some (p .within) in
+    let f = c .before .source .ensures (x .head) (walks.going-part G some (c .before .before .before .before .before .before .before .statement-end .result) e) in
+    omega (arith, f, source-below (x .head) w k, s .pre .1 .1 .0)
 
 -- src/walk.rt:66:56
 list-mul-change : (t : ℕ) → list-lts.Need-mul-change (list-claims t) (list-at t) list.Post list-Inv-loop list-μ-loop
-list-mul-change t c = ?
+list-mul-change t c =
+    let s = c .before .before .before .before .before .before .before .before .before .before .before .before .before .before in
+    let p = s .pre .1 .0 in
+    let l = c .before .before .before .before .before .before .before .before .before .before .loop in
+    let G = l .inv .1 .1 .1 (p .tree) (p .is) in
+    let some = c .before .before .before .before .before .before .before .before .before .loop-test .taken in
+    let x = walks.going-next G some in
+    let e = c .before .before .before .before .before .before .before .before .statement-end .ensures (x .head) (x .head-is) in
+    let inside = walks.going-inside G some in
+    omega (arith, inside, statement-some (x .head), s .good .0 .0, s .good .0 .1, s .pre .1 .1 .1 .1)
 
 -- src/walk.rt:66:56
 list-sub-change : (t : ℕ) → list-lts.Need-sub-change (list-claims t) (list-at t) list.Post list-Inv-loop list-μ-loop
-list-sub-change t c = ?
+list-sub-change t c =
+    let s = c .before .before .before .before .before .before .before .before .before .before .before .before .before .before in
+    let p = s .pre .1 .0 in
+    let l = c .before .before .before .before .before .before .before .before .before .before .loop in
+    let G = l .inv .1 .1 .1 (p .tree) (p .is) in
+    let some = c .before .before .before .before .before .before .before .before .before .loop-test .taken in
+    let x = walks.going-next G some in
+    let e = c .before .before .before .before .before .before .before .before .statement-end .ensures (x .head) (x .head-is) in
+    let inside = walks.going-inside G some in
+    omega (arith, inside, statement-some (x .head), s .good .0 .0, s .good .0 .1, s .pre .1 .1 .1 .1)
 
 -- src/walk.rt:66:56
 list-part-change-start : (t : ℕ) → list-lts.Need-part-change-start (list-claims t) (list-at t) list.Post list-Inv-loop list-μ-loop
-list-part-change-start t c = ?
+list-part-change-start t c =
+    let s = c .before .before .before .before .before .before .before .before .before .before .before .before .before .before in
+    let p = s .pre .1 .0 in
+    let l = c .before .before .before .before .before .before .before .before .before .before .loop in
+    let G = l .inv .1 .1 .1 (p .tree) (p .is) in
+    let some = c .before .before .before .before .before .before .before .before .before .loop-test .taken in
+    let x = walks.going-next G some in
+    let e = c .before .before .before .before .before .before .before .before .statement-end .ensures (x .head) (x .head-is) in
+    let inside = walks.going-inside G some in
+    omega (arith, inside, statement-some (x .head), s .good .0 .0, s .good .0 .1, s .pre .1 .1 .1 .1)
 
 -- src/walk.rt:66:56
 list-part-change-end : (t : ℕ) → list-lts.Need-part-change-end (list-claims t) (list-at t) list.Post list-Inv-loop list-μ-loop
-list-part-change-end t c = ?
+list-part-change-end t c =
+    let s = c .before .before .before .before .before .before .before .before .before .before .before .before .before .before in
+    let p = s .pre .1 .0 in
+    let l = c .before .before .before .before .before .before .before .before .before .before .loop in
+    let G = l .inv .1 .1 .1 (p .tree) (p .is) in
+    let some = c .before .before .before .before .before .before .before .before .before .loop-test .taken in
+    let x = walks.going-next G some in
+    let e = c .before .before .before .before .before .before .before .before .statement-end .ensures (x .head) (x .head-is) in
+    let inside = walks.going-inside G some in
+    omega (arith, inside, statement-some (x .head), s .good .0 .0, s .good .0 .1, s .pre .1 .1 .1 .1)
 
 -- src/walk.rt:66:42
 list-change-requires : (t : ℕ) → list-lts.Need-change-requires (list-claims t) (list-at t) list.Post list-Inv-loop list-μ-loop
-list-change-requires t c κs = ?
+list-change-requires t c κs =
+    let s = c .before .before .before .before .before .before .before .before .before .before .before .before .before .before .before in
+    let p = s .pre .1 .0 in
+    let l = c .before .before .before .before .before .before .before .before .before .before .before .loop in
+    let G = l .inv .1 .1 .1 (p .tree) (p .is) in
+    let some = c .before .before .before .before .before .before .before .before .before .before .loop-test .taken in
+    let x = walks.going-next G some in
+    let e = c .before .before .before .before .before .before .before .before .before .statement-end .ensures (x .head) (x .head-is) in
+    let inside = walks.going-inside G some in
+    (walks.going-is G some (p .within) (c .before .before .before .before .before .before .before .before .before .statement-end .result) e, omega (arith, walks.going-first-word G some (p .within) (c .before .before .before .before .before .before .before .before .before .statement-end .result) e, c .before .before .before .before .before .before .before .if1 .taken))
 
 -- src/walk.rt:66:33
 list-enum-known-range : (t : ℕ) → list-lts.Need-enum-known-range (list-claims t) (list-at t) list.Post list-Inv-loop list-μ-loop
@@ -725,7 +921,16 @@ list-enum-told t c = search needs
 
 -- src/walk.rt:67:47
 list-add-refused : (t : ℕ) → list-lts.Need-add-refused (list-claims t) (list-at t) list.Post list-Inv-loop list-μ-loop
-list-add-refused t c = ?
+list-add-refused t c =
+    let s = c .before .before .before .before .before .before .before .before .before .before .before .before .before .before .before .before .before .before in
+    let p = s .pre .1 .0 in
+    let l = c .before .before .before .before .before .before .before .before .before .before .before .before .before .before .loop in
+    let G = l .inv .1 .1 .1 (p .tree) (p .is) in
+    let some = c .before .before .before .before .before .before .before .before .before .before .before .before .before .loop-test .taken in
+    let x = walks.going-next G some in
+    let e = c .before .before .before .before .before .before .before .before .before .before .before .before .statement-end .ensures (x .head) (x .head-is) in
+    let inside = walks.going-inside G some in
+    omega (arith, inside, statement-some (x .head), s .good .0 .0, s .good .0 .1, s .pre .1 .1 .1 .1)
 
 -- src/walk.rt:67:21
 list-refused-requires : (t : ℕ) → list-lts.Need-refused-requires (list-claims t) (list-at t) list.Post list-Inv-loop list-μ-loop
@@ -733,7 +938,7 @@ list-refused-requires t c κs = tt
 
 -- src/walk.rt:67:21
 list-same-length : (t : ℕ) → list-lts.Need-same-length (list-claims t) (list-at t) list.Post list-Inv-loop list-μ-loop
-list-same-length t c = ?
+list-same-length t c = c .before .before .before .before .before .before .before .before .before .before .before .before .before .before .before .loop .inv .1 .0
 
 -- src/walk.rt:67:21
 list-returns : (t : ℕ) → list-lts.Need-returns (list-claims t) (list-at t) list.Post list-Inv-loop list-μ-loop
@@ -753,35 +958,115 @@ list-enum-told-3 t c = search needs
 
 -- src/walk.rt:74:25
 list-mul-t46 : (t : ℕ) → list-lts.Need-mul-t46 (list-claims t) (list-at t) list.Post list-Inv-loop list-μ-loop
-list-mul-t46 t c = ?
+list-mul-t46 t c =
+    let s = c .before .before .before .before .before .before .before .before .before .before .before .before .before .before .before .before .before .before .before .before .before in
+    let p = s .pre .1 .0 in
+    let l = c .before .before .before .before .before .before .before .before .before .before .before .before .before .before .before .before .before .loop in
+    let G = l .inv .1 .1 .1 (p .tree) (p .is) in
+    let some = c .before .before .before .before .before .before .before .before .before .before .before .before .before .before .before .before .loop-test .taken in
+    let x = walks.going-next G some in
+    let e = c .before .before .before .before .before .before .before .before .before .before .before .before .before .before .before .statement-end .ensures (x .head) (x .head-is) in
+    let inside = walks.going-inside G some in
+    let k = walks.kind-below (walks.going-kind G some) (c .before .before .before .before .before .before .before .before .before .before .before .before .before .if1 .taken) in
+    let w = walks.going-statement G some (p .within) in
+    omega (arith, walks.going-own G some k, target-below (x .head) w k, s .pre .1 .1 .0)
 
 -- src/walk.rt:74:25
 list-element-set-from-s : (t : ℕ) → list-lts.Need-element-set-from-s (list-claims t) (list-at t) list.Post list-Inv-loop list-μ-loop
-list-element-set-from-s t c = ?
+list-element-set-from-s t c =
+    let s = c .before .before .before .before .before .before .before .before .before .before .before .before .before .before .before .before .before .before .before .before .before in
+    let p = s .pre .1 .0 in
+    let l = c .before .before .before .before .before .before .before .before .before .before .before .before .before .before .before .before .before .loop in
+    let G = l .inv .1 .1 .1 (p .tree) (p .is) in
+    let some = c .before .before .before .before .before .before .before .before .before .before .before .before .before .before .before .before .loop-test .taken in
+    let x = walks.going-next G some in
+    let e = c .before .before .before .before .before .before .before .before .before .before .before .before .before .before .before .statement-end .ensures (x .head) (x .head-is) in
+    let inside = walks.going-inside G some in
+    let k = walks.kind-below (walks.going-kind G some) (c .before .before .before .before .before .before .before .before .before .before .before .before .before .if1 .taken) in
+    let w = walks.going-statement G some (p .within) in
+    omega (arith, walks.going-own G some k, target-below (x .head) w k, s .pre .1 .1 .0)
 
 -- src/walk.rt:79:31
 list-mul-statement : (t : ℕ) → list-lts.Need-mul-statement (list-claims t) (list-at t) list.Post list-Inv-loop list-μ-loop
-list-mul-statement t c = ?
+list-mul-statement t c =
+    let s = c .before .before .before .before .before .before .before .before in
+    let p = s .pre .1 .0 in
+    let l = c .before .before .before .before .loop in
+    let G = l .inv .1 .1 .1 (p .tree) (p .is) in
+    let some = c .before .before .before .loop-test .taken in
+    let x = walks.going-next G some in
+    let e = c .before .before .statement-end .ensures (x .head) (x .head-is) in
+    let inside = walks.going-inside G some in
+    omega (arith, inside, statement-some (x .head), s .good .0 .0, s .good .0 .1, s .pre .1 .1 .1 .1)
 
 -- src/walk.rt:79:31
 list-sub-statement : (t : ℕ) → list-lts.Need-sub-statement (list-claims t) (list-at t) list.Post list-Inv-loop list-μ-loop
-list-sub-statement t c = ?
+list-sub-statement t c =
+    let s = c .before .before .before .before .before .before .before .before in
+    let p = s .pre .1 .0 in
+    let l = c .before .before .before .before .loop in
+    let G = l .inv .1 .1 .1 (p .tree) (p .is) in
+    let some = c .before .before .before .loop-test .taken in
+    let x = walks.going-next G some in
+    let e = c .before .before .statement-end .ensures (x .head) (x .head-is) in
+    let inside = walks.going-inside G some in
+    omega (arith, inside, statement-some (x .head), s .good .0 .0, s .good .0 .1, s .pre .1 .1 .1 .1)
 
 -- src/walk.rt:79:31
 list-part-statement-start : (t : ℕ) → list-lts.Need-part-statement-start (list-claims t) (list-at t) list.Post list-Inv-loop list-μ-loop
-list-part-statement-start t c = ?
+list-part-statement-start t c =
+    let s = c .before .before .before .before .before .before .before .before in
+    let p = s .pre .1 .0 in
+    let l = c .before .before .before .before .loop in
+    let G = l .inv .1 .1 .1 (p .tree) (p .is) in
+    let some = c .before .before .before .loop-test .taken in
+    let x = walks.going-next G some in
+    let e = c .before .before .statement-end .ensures (x .head) (x .head-is) in
+    let inside = walks.going-inside G some in
+    omega (arith, inside, statement-some (x .head), s .good .0 .0, s .good .0 .1, s .pre .1 .1 .1 .1)
 
 -- src/walk.rt:79:31
 list-part-statement-end : (t : ℕ) → list-lts.Need-part-statement-end (list-claims t) (list-at t) list.Post list-Inv-loop list-μ-loop
-list-part-statement-end t c = ?
+list-part-statement-end t c =
+    let s = c .before .before .before .before .before .before .before .before in
+    let p = s .pre .1 .0 in
+    let l = c .before .before .before .before .loop in
+    let G = l .inv .1 .1 .1 (p .tree) (p .is) in
+    let some = c .before .before .before .loop-test .taken in
+    let x = walks.going-next G some in
+    let e = c .before .before .statement-end .ensures (x .head) (x .head-is) in
+    let inside = walks.going-inside G some in
+    omega (arith, inside, statement-some (x .head), s .good .0 .0, s .good .0 .1, s .pre .1 .1 .1 .1)
 
 -- src/walk.rt:79:48
 list-add-statement : (t : ℕ) → list-lts.Need-add-statement (list-claims t) (list-at t) list.Post list-Inv-loop list-μ-loop
-list-add-statement t c = ?
+list-add-statement t c =
+    let s = c .before .before .before .before .before .before .before .before .before in
+    let p = s .pre .1 .0 in
+    let l = c .before .before .before .before .before .loop in
+    let G = l .inv .1 .1 .1 (p .tree) (p .is) in
+    let some = c .before .before .before .before .loop-test .taken in
+    let x = walks.going-next G some in
+    let e = c .before .before .before .statement-end .ensures (x .head) (x .head-is) in
+    let inside = walks.going-inside G some in
+    omega (arith, inside, statement-some (x .head), s .good .0 .0, s .good .0 .1, s .pre .1 .1 .1 .1)
 
 -- src/walk.rt:79:17
 list-statement-requires : (t : ℕ) → list-lts.Need-statement-requires (list-claims t) (list-at t) list.Post list-Inv-loop list-μ-loop
-list-statement-requires t c κs = ?
+list-statement-requires t c κs =
+    let s = c .before .before .before .before .before .before .before .before .before .before in
+    let p = s .pre .1 .0 in
+    let l = c .before .before .before .before .before .before .loop in
+    let G = l .inv .1 .1 .1 (p .tree) (p .is) in
+    let some = c .before .before .before .before .before .loop-test .taken in
+    let x = walks.going-next G some in
+    let e = c .before .before .before .before .statement-end .ensures (x .head) (x .head-is) in
+    let inside = walks.going-inside G some in
+    let f = walks.going-part G some (c .before .before .before .before .statement-end .result) e in
+    (omega (arith, ap length f, inside, s .pre .0, l .inv .0),
+      (walks.going-is G some (p .within) (c .before .before .before .before .statement-end .result) e,
+        (omega (arith, walks.going-first-word G some (p .within) (c .before .before .before .before .statement-end .result) e, c .before .before .if1 .left),
+          (s .pre .1 .1 .0, (s .pre .1 .1 .1 .0, omega (arith, ap length f, inside, s .pre .1 .1 .1 .1, l .inv .1 .0))))))
 
 -- src/walk.rt:82:17
 list-enum-told-4 : (t : ℕ) → list-lts.Need-enum-told-4 (list-claims t) (list-at t) list.Post list-Inv-loop list-μ-loop
@@ -789,22 +1074,31 @@ list-enum-told-4 t c = search needs
 
 -- src/walk.rt:82:17
 list-same-length-2 : (t : ℕ) → list-lts.Need-same-length-2 (list-claims t) (list-at t) list.Post list-Inv-loop list-μ-loop
-list-same-length-2 t c = ?
+list-same-length-2 t c = c .before .before .before .before .statement .kept .1 .1 .1 .1 .1 .0 ∙ c .before .before .before .before .before .before .before .before .before .before .before .loop .inv .1 .0
 
 -- src/walk.rt:82:17
 list-returns-2 : (t : ℕ) → list-lts.Need-returns-2 (list-claims t) (list-at t) list.Post list-Inv-loop list-μ-loop
-list-returns-2 t c = ?
+list-returns-2 t c =
+    λ t h.
+        let s = c .before .before .before .before .before .before .before .before .before .before .before .before .before .before .before in
+        let l = c .before .before .before .before .before .before .before .before .before .before .before .loop in
+        let G = l .inv .1 .1 .1 t h in
+        let some = c .before .before .before .before .before .before .before .before .before .before .loop-test .taken in
+        let x = walks.going-next G some in
+        let e = c .before .before .before .before .before .before .before .before .before .statement-end .ensures (x .head) (x .head-is) in
+        let f = walks.going-part G some (c .before .before .before .before .before .before .before .before .before .statement-end .result) e in
+        walks.going-refused G some (c .before .before .before .before .statement .ensures (x .head) f) (c .enum-told4 .given .1)
 
 list-enum-told-5 : (t : ℕ) → list-lts.Need-enum-told-5 (list-claims t) (list-at t) list.Post list-Inv-loop list-μ-loop
 list-enum-told-5 t c = search needs
 
 -- src/walk.rt:87:9
 list-sub-left : (t : ℕ) → list-lts.Need-sub-left (list-claims t) (list-at t) list.Post list-Inv-loop list-μ-loop
-list-sub-left t c = ?
+list-sub-left t c = omega (arith, c .before .before .before .loop-test .taken)
 
 -- src/walk.rt:56:5
 list-loop-less : (t : ℕ) → list-lts.Need-loop-less (list-claims t) (list-at t) list.Post list-Inv-loop list-μ-loop
-list-loop-less t c = ?
+list-loop-less t c = omega (arith, c .before .before .before .loop-test .taken)
 
 -- src/walk.rt:56:5
 list-loop-again : (t : ℕ) → list-lts.Need-loop-again (list-claims t) (list-at t) list.Post list-Inv-loop list-μ-loop
@@ -816,11 +1110,16 @@ list-good-requires t c κs = tt
 
 -- src/walk.rt:46:1
 list-same-length-3 : (t : ℕ) → list-lts.Need-same-length-3 (list-claims t) (list-at t) list.Post list-Inv-loop list-μ-loop
-list-same-length-3 t c = ?
+list-same-length-3 t c = c .before .before .loop .inv .1 .0
 
 -- src/walk.rt:46:1
 list-returns-3 : (t : ℕ) → list-lts.Need-returns-3 (list-claims t) (list-at t) list.Post list-Inv-loop list-μ-loop
-list-returns-3 t c = ?
+list-returns-3 t c =
+    λ t h.
+        let s = c .before .before .before .before .before .before in
+        let l = c .before .before .loop in
+        let j = walks.going-last (l .inv .1 .1 .1 t h) (omega (arith, c .before .loop-test .left)) in
+        record { out = c .good2 .ensures ∙ j .out; marks = j .marks }
 
 -- src/walk.rt:331:9
 looped-search-requires : (t : ℕ) → looped-lts.Need-search-requires (looped-claims t) (looped-at t) looped.Post
