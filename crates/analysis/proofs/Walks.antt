@@ -208,13 +208,17 @@ module _ {g : Setting} {base : ℕ} {ws : List ℕ} {s₀ : State} {m₀ : List 
       abbrev made : Range → State
       made r = states.put s (plain.target (going-next .head)) r
 
-      pub going-over : s .live ≡ true → Over ≡ plain.change (going-next .head) (states.get s (plain.target (going-next .head))) (states.get s (plain.source (going-next .head))) →
-          Says answered (noted.list g (base + 1) t s₀) (answered (Refuses 8 (base + at))) m₀ m
-      going-over l e = from-next (answered (Refuses 8 (base + at))) m (steps.plain-over g (base + at) s (going-next .head) (going-next .tail) plainly m l (sym e))
+      module _ (own read : Range) (own-is : own ≡ states.get s (plain.target (going-next .head))) (read-is : read ≡ states.get s (plain.source (going-next .head))) where
+        as-read : plain.change (going-next .head) own read ≡ plain.change (going-next .head) (states.get s (plain.target (going-next .head))) (states.get s (plain.source (going-next .head)))
+        as-read = rw (own-is, read-is)
 
-      pub going-changed : (end : ℕ) → end ≡ at + length (code.statement (going-next .head)) → {r : Range} → Is r ≡ plain.change (going-next .head) (states.get s (plain.target (going-next .head))) (states.get s (plain.source (going-next .head))) →
-          Going g base ws s₀ m₀ t (left - 1) end (made r) m
-      going-changed end e {r} q = going-on end (made r) m e (steps.plain-on g (base + at) s (going-next .head) (going-next .tail) plainly m (sym q))
+        pub going-over : s .live ≡ true → Over ≡ plain.change (going-next .head) own read → Says answered (noted.list g (base + 1) t s₀) (answered (Refuses 8 (base + at))) m₀ m
+        going-over l e = from-next (answered (Refuses 8 (base + at))) m (steps.plain-over g (base + at) s (going-next .head) (going-next .tail) plainly m l (sym (e ∙ as-read)))
+
+        pub going-changed : (end : ℕ) → end ≡ at + length (code.statement (going-next .head)) → {r : Range} → Is r ≡ plain.change (going-next .head) own read → (s₁ : State) → s₁ ≡ made r →
+            Going g base ws s₀ m₀ t (left - 1) end s₁ m
+        going-changed end e {r} q s₁ h = subst (λ (z : State). Going g base ws s₀ m₀ t (left - 1) end z m) (sym h)
+            (going-on end (made r) m e (steps.plain-on g (base + at) s (going-next .head) (going-next .tail) plainly m (sym (q ∙ as-read))))
 
       pub going-dead : (end : ℕ) → end ≡ at + length (code.statement (going-next .head)) → s .live ≡ false → Going g base ws s₀ m₀ t (left - 1) end s m
       going-dead end e d = going-on end s m e (steps.plain-dead g (base + at) s (going-next .head) (going-next .tail) plainly m d)

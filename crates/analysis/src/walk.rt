@@ -54,17 +54,19 @@ pub fn list(words: &[u64], base: usize, n: usize, unroll: usize, state: State, m
     let mut left = words[0];
     let mut at: usize = 1;
     while left > 0 {
-        let end = ends::statement_end(words, at);
-        if words[at] < 4 {
+        let here = at;
+        at = ends::statement_end(words, here);
+        left -= 1;
+        if words[here] < 4 {
             if s.live {
-                let own = words[at + 1] as usize;
-                let source = plain::source(&words[at..end], n);
+                let own = words[here + 1] as usize;
+                let source = plain::source(&words[here..at], n);
                 let cell = s.cells[own];
                 let other = s.cells[source];
                 let old = cell.range;
                 let read = other.range;
-                let Bounded::Is(range) = plain::change(&words[at..end], n, old, read) else {
-                    return states::refused(8, base + at);
+                let Bounded::Is(range) = plain::change(&words[here..at], n, old, read) else {
+                    return states::refused(8, base + here);
                 };
                 match range {
                     Range::Empty => {
@@ -76,15 +78,13 @@ pub fn list(words: &[u64], base: usize, n: usize, unroll: usize, state: State, m
                 }
             }
         } else {
-            let r = statement(&words[at..end], base + at, n, unroll, s, marks);
+            let r = statement(&words[here..at], base + here, n, unroll, s, marks);
             let verdict = r.verdict;
             if let Verdict::Refused(_, _) = verdict {
                 return r;
             }
             s = r.state;
         }
-        at = end;
-        left -= 1;
     }
     states::good(s)
 }

@@ -17,7 +17,12 @@ use Rattle.words.proofs.Nodes.{statement-some, while-here}
 use Rattle.paper.specs.Rules as rules
 use Rattle.paper.specs.Code as code
 use Rattle.paper.specs.Tree.{Unroll, Event, Statement, Statements, While}
+use Rattle.analysis.proofs.Passed.{answer-long}
+use Rattle.analysis.specs.Plain as plain
+use Rattle.events.proofs.Steps.{put-span, put-none}
 use Rattle.states.proofs.Passed.{state-long}
+use Rattle.states.proofs.Cells.{there}
+use Rattle.states.specs.declared.Cell.{Cell}
 use Rattle.states.specs.States as states
 use Rattle.states.specs.Answers.{Gives, Refuses, answered}
 use Rattle.states.specs.declared.State.{State}
@@ -96,7 +101,6 @@ use Rattle.analysis.proofs.walk.+branch+growing+list+looped+normalize+p
   statement,
 }
 use Rattle.analysis.proofs.walk.+branch+growing+list+looped+normalize+pass+search+settle+statement+unrolled.Tie.{
-
   close,
 }
 
@@ -640,7 +644,7 @@ list-loop-holds t c =
     let s = c .before .before .before in
     (omega arith, (refl, (state-long (s .args .state) (s .good .1 .1 .1 .1 .0), λ t h. walks.going-first (setting (s .args .n) (s .args .unroll)) (s .args .base) (s .args .words .now) (s .args .state) (s .args .marks .now) t h)))
 
--- src/walk.rt:57:13
+-- src/walk.rt:58:9
 list-statement-end-requires : (t : ℕ) → list-lts.Need-statement-end-requires (list-claims t) (list-at t) list.Post list-Inv-loop list-μ-loop
 list-statement-end-requires t c κs =
     let s = c .before .before .before .before .before in
@@ -651,7 +655,11 @@ list-statement-end-requires t c κs =
     let x = walks.going-next G some in
     record { tree = x .head; is = x .head-is }
 
--- src/walk.rt:58:12
+-- src/walk.rt:59:9
+list-sub-left : (t : ℕ) → list-lts.Need-sub-left (list-claims t) (list-at t) list.Post list-Inv-loop list-μ-loop
+list-sub-left t c = omega (arith, c .before .loop-test .taken)
+
+-- src/walk.rt:60:12
 list-mul-if1 : (t : ℕ) → list-lts.Need-mul-if1 (list-claims t) (list-at t) list.Post list-Inv-loop list-μ-loop
 list-mul-if1 t c =
     let s = c .before .before .before .before .before .before in
@@ -664,7 +672,7 @@ list-mul-if1 t c =
     let inside = walks.going-inside G some in
     omega (arith, inside, statement-some (x .head), s .good .0 .0, s .good .0 .1, s .pre .1 .1 .1 .1)
 
--- src/walk.rt:58:12
+-- src/walk.rt:60:12
 list-shared-slice-read-if1 : (t : ℕ) → list-lts.Need-shared-slice-read-if1 (list-claims t) (list-at t) list.Post list-Inv-loop list-μ-loop
 list-shared-slice-read-if1 t c =
     let s = c .before .before .before .before .before .before .before in
@@ -677,7 +685,7 @@ list-shared-slice-read-if1 t c =
     let inside = walks.going-inside G some in
     omega (arith, inside, statement-some (x .head), s .good .0 .0, s .good .0 .1, s .pre .1 .1 .1 .1)
 
--- src/walk.rt:60:33
+-- src/walk.rt:62:33
 list-add-own : (t : ℕ) → list-lts.Need-add-own (list-claims t) (list-at t) list.Post list-Inv-loop list-μ-loop
 list-add-own t c =
     let s = c .before .before .before .before .before .before .before .before .before in
@@ -691,7 +699,7 @@ list-add-own t c =
     let long = walks.going-long G some (c .before .if1 .taken) in
     omega (arith, inside, long, s .good .0 .0, s .good .0 .1)
 
--- src/walk.rt:60:27
+-- src/walk.rt:62:27
 list-mul-own : (t : ℕ) → list-lts.Need-mul-own (list-claims t) (list-at t) list.Post list-Inv-loop list-μ-loop
 list-mul-own t c =
     let s = c .before .before .before .before .before .before .before .before .before in
@@ -705,7 +713,7 @@ list-mul-own t c =
     let long = walks.going-long G some (c .before .if1 .taken) in
     omega (arith, inside, long, s .good .0 .0, s .good .0 .1)
 
--- src/walk.rt:60:27
+-- src/walk.rt:62:27
 list-shared-slice-read-own : (t : ℕ) → list-lts.Need-shared-slice-read-own (list-claims t) (list-at t) list.Post list-Inv-loop list-μ-loop
 list-shared-slice-read-own t c =
     let s = c .before .before .before .before .before .before .before .before .before .before in
@@ -719,7 +727,7 @@ list-shared-slice-read-own t c =
     let long = walks.going-long G some (c .before .before .if1 .taken) in
     omega (arith, inside, long, s .good .0 .0, s .good .0 .1)
 
--- src/walk.rt:61:44
+-- src/walk.rt:63:44
 list-mul-source : (t : ℕ) → list-lts.Need-mul-source (list-claims t) (list-at t) list.Post list-Inv-loop list-μ-loop
 list-mul-source t c =
     let s = c .before .before .before .before .before .before .before .before .before .before in
@@ -732,7 +740,7 @@ list-mul-source t c =
     let inside = walks.going-inside G some in
     omega (arith, inside, statement-some (x .head), s .good .0 .0, s .good .0 .1, s .pre .1 .1 .1 .1)
 
--- src/walk.rt:61:44
+-- src/walk.rt:63:44
 list-sub-source : (t : ℕ) → list-lts.Need-sub-source (list-claims t) (list-at t) list.Post list-Inv-loop list-μ-loop
 list-sub-source t c =
     let s = c .before .before .before .before .before .before .before .before .before .before in
@@ -745,7 +753,7 @@ list-sub-source t c =
     let inside = walks.going-inside G some in
     omega (arith, inside, statement-some (x .head), s .good .0 .0, s .good .0 .1, s .pre .1 .1 .1 .1)
 
--- src/walk.rt:61:44
+-- src/walk.rt:63:44
 list-part-source-start : (t : ℕ) → list-lts.Need-part-source-start (list-claims t) (list-at t) list.Post list-Inv-loop list-μ-loop
 list-part-source-start t c =
     let s = c .before .before .before .before .before .before .before .before .before .before in
@@ -758,7 +766,7 @@ list-part-source-start t c =
     let inside = walks.going-inside G some in
     omega (arith, inside, statement-some (x .head), s .good .0 .0, s .good .0 .1, s .pre .1 .1 .1 .1)
 
--- src/walk.rt:61:44
+-- src/walk.rt:63:44
 list-part-source-end : (t : ℕ) → list-lts.Need-part-source-end (list-claims t) (list-at t) list.Post list-Inv-loop list-μ-loop
 list-part-source-end t c =
     let s = c .before .before .before .before .before .before .before .before .before .before in
@@ -771,7 +779,7 @@ list-part-source-end t c =
     let inside = walks.going-inside G some in
     omega (arith, inside, statement-some (x .head), s .good .0 .0, s .good .0 .1, s .pre .1 .1 .1 .1)
 
--- src/walk.rt:61:21
+-- src/walk.rt:63:21
 list-source-requires : (t : ℕ) → list-lts.Need-source-requires (list-claims t) (list-at t) list.Post list-Inv-loop list-μ-loop
 list-source-requires t c κs =
     let s = c .before .before .before .before .before .before .before .before .before .before .before in
@@ -784,7 +792,7 @@ list-source-requires t c κs =
     let inside = walks.going-inside G some in
     (walks.going-is G some (p .within) (c .before .before .before .before .before .statement-end .result) e, omega (arith, walks.going-first-word G some (p .within) (c .before .before .before .before .before .statement-end .result) e, c .before .before .before .if1 .taken))
 
--- src/walk.rt:62:28
+-- src/walk.rt:64:28
 list-mul-cell : (t : ℕ) → list-lts.Need-mul-cell (list-claims t) (list-at t) list.Post list-Inv-loop list-μ-loop
 list-mul-cell t c =
     let s = c .before .before .before .before .before .before .before .before .before .before .before .before in
@@ -799,7 +807,7 @@ list-mul-cell t c =
     let w = walks.going-statement G some (p .within) in
     omega (arith, walks.going-own G some k, target-below (x .head) w k, s .pre .1 .1 .0)
 
--- src/walk.rt:62:28
+-- src/walk.rt:64:28
 list-element-copy-out-cell : (t : ℕ) → list-lts.Need-element-copy-out-cell (list-claims t) (list-at t) list.Post list-Inv-loop list-μ-loop
 list-element-copy-out-cell t c =
     let s = c .before .before .before .before .before .before .before .before .before .before .before .before in
@@ -814,7 +822,7 @@ list-element-copy-out-cell t c =
     let w = walks.going-statement G some (p .within) in
     omega (arith, walks.going-own G some k, target-below (x .head) w k, s .pre .1 .1 .0)
 
--- src/walk.rt:63:29
+-- src/walk.rt:65:29
 list-mul-other : (t : ℕ) → list-lts.Need-mul-other (list-claims t) (list-at t) list.Post list-Inv-loop list-μ-loop
 list-mul-other t c =
     let s = c .before .before .before .before .before .before .before .before .before .before .before .before .before in
@@ -830,7 +838,7 @@ list-mul-other t c =
     let f = c .before .source .ensures (x .head) (walks.going-part G some (c .before .before .before .before .before .before .before .statement-end .result) e) in
     omega (arith, f, source-below (x .head) w k, s .pre .1 .1 .0)
 
--- src/walk.rt:63:29
+-- src/walk.rt:65:29
 list-element-copy-out-other : (t : ℕ) → list-lts.Need-element-copy-out-other (list-claims t) (list-at t) list.Post list-Inv-loop list-μ-loop
 list-element-copy-out-other t c =
     let s = c .before .before .before .before .before .before .before .before .before .before .before .before .before in
@@ -846,7 +854,7 @@ list-element-copy-out-other t c =
     let f = c .before .source .ensures (x .head) (walks.going-part G some (c .before .before .before .before .before .before .before .statement-end .result) e) in
     omega (arith, f, source-below (x .head) w k, s .pre .1 .1 .0)
 
--- src/walk.rt:66:56
+-- src/walk.rt:68:56
 list-mul-change : (t : ℕ) → list-lts.Need-mul-change (list-claims t) (list-at t) list.Post list-Inv-loop list-μ-loop
 list-mul-change t c =
     let s = c .before .before .before .before .before .before .before .before .before .before .before .before .before .before in
@@ -859,7 +867,7 @@ list-mul-change t c =
     let inside = walks.going-inside G some in
     omega (arith, inside, statement-some (x .head), s .good .0 .0, s .good .0 .1, s .pre .1 .1 .1 .1)
 
--- src/walk.rt:66:56
+-- src/walk.rt:68:56
 list-sub-change : (t : ℕ) → list-lts.Need-sub-change (list-claims t) (list-at t) list.Post list-Inv-loop list-μ-loop
 list-sub-change t c =
     let s = c .before .before .before .before .before .before .before .before .before .before .before .before .before .before in
@@ -872,7 +880,7 @@ list-sub-change t c =
     let inside = walks.going-inside G some in
     omega (arith, inside, statement-some (x .head), s .good .0 .0, s .good .0 .1, s .pre .1 .1 .1 .1)
 
--- src/walk.rt:66:56
+-- src/walk.rt:68:56
 list-part-change-start : (t : ℕ) → list-lts.Need-part-change-start (list-claims t) (list-at t) list.Post list-Inv-loop list-μ-loop
 list-part-change-start t c =
     let s = c .before .before .before .before .before .before .before .before .before .before .before .before .before .before in
@@ -885,7 +893,7 @@ list-part-change-start t c =
     let inside = walks.going-inside G some in
     omega (arith, inside, statement-some (x .head), s .good .0 .0, s .good .0 .1, s .pre .1 .1 .1 .1)
 
--- src/walk.rt:66:56
+-- src/walk.rt:68:56
 list-part-change-end : (t : ℕ) → list-lts.Need-part-change-end (list-claims t) (list-at t) list.Post list-Inv-loop list-μ-loop
 list-part-change-end t c =
     let s = c .before .before .before .before .before .before .before .before .before .before .before .before .before .before in
@@ -898,7 +906,7 @@ list-part-change-end t c =
     let inside = walks.going-inside G some in
     omega (arith, inside, statement-some (x .head), s .good .0 .0, s .good .0 .1, s .pre .1 .1 .1 .1)
 
--- src/walk.rt:66:42
+-- src/walk.rt:68:42
 list-change-requires : (t : ℕ) → list-lts.Need-change-requires (list-claims t) (list-at t) list.Post list-Inv-loop list-μ-loop
 list-change-requires t c κs =
     let s = c .before .before .before .before .before .before .before .before .before .before .before .before .before .before .before in
@@ -911,15 +919,15 @@ list-change-requires t c κs =
     let inside = walks.going-inside G some in
     (walks.going-is G some (p .within) (c .before .before .before .before .before .before .before .before .before .statement-end .result) e, omega (arith, walks.going-first-word G some (p .within) (c .before .before .before .before .before .before .before .before .before .statement-end .result) e, c .before .before .before .before .before .before .before .if1 .taken))
 
--- src/walk.rt:66:33
+-- src/walk.rt:68:33
 list-enum-known-range : (t : ℕ) → list-lts.Need-enum-known-range (list-claims t) (list-at t) list.Post list-Inv-loop list-μ-loop
 list-enum-known-range t c = search needs
 
--- src/walk.rt:67:47
+-- src/walk.rt:69:47
 list-enum-told : (t : ℕ) → list-lts.Need-enum-told (list-claims t) (list-at t) list.Post list-Inv-loop list-μ-loop
 list-enum-told t c = search needs
 
--- src/walk.rt:67:47
+-- src/walk.rt:69:47
 list-add-refused : (t : ℕ) → list-lts.Need-add-refused (list-claims t) (list-at t) list.Post list-Inv-loop list-μ-loop
 list-add-refused t c =
     let s = c .before .before .before .before .before .before .before .before .before .before .before .before .before .before .before .before .before .before in
@@ -932,31 +940,83 @@ list-add-refused t c =
     let inside = walks.going-inside G some in
     omega (arith, inside, statement-some (x .head), s .good .0 .0, s .good .0 .1, s .pre .1 .1 .1 .1)
 
--- src/walk.rt:67:21
+-- src/walk.rt:69:21
 list-refused-requires : (t : ℕ) → list-lts.Need-refused-requires (list-claims t) (list-at t) list.Post list-Inv-loop list-μ-loop
 list-refused-requires t c κs = tt
 
--- src/walk.rt:67:21
+-- src/walk.rt:69:21
 list-same-length : (t : ℕ) → list-lts.Need-same-length (list-claims t) (list-at t) list.Post list-Inv-loop list-μ-loop
 list-same-length t c = c .before .before .before .before .before .before .before .before .before .before .before .before .before .before .before .loop .inv .1 .0
 
--- src/walk.rt:67:21
+-- src/walk.rt:69:21
 list-returns : (t : ℕ) → list-lts.Need-returns (list-claims t) (list-at t) list.Post list-Inv-loop list-μ-loop
-list-returns t c = ?
+list-returns t c =
+    λ t h.
+        let s = c .before .before .before .before .before .before .before .before .before .before .before .before .before .before .before .before .before .before .before in
+        let l = c .before .before .before .before .before .before .before .before .before .before .before .before .before .before .before .loop in
+        let G = l .inv .1 .1 .1 t h in
+        let some = c .before .before .before .before .before .before .before .before .before .before .before .before .before .before .loop-test .taken in
+        let x = walks.going-next G some in
+        let e = c .before .before .before .before .before .before .before .before .before .before .before .before .before .statement-end .ensures (x .head) (x .head-is) in
+        let f = walks.going-part G some (c .before .before .before .before .before .before .before .before .before .before .before .before .before .statement-end .result) e in
+        let k = walks.kind-below (walks.going-kind G some) (c .before .before .before .before .before .before .before .before .before .before .before .if1 .taken) in
+        let p = s .pre .1 .0 in
+        let own = walks.going-own G some k in
+        let src = c .before .before .before .before .before .before .before .source .ensures (x .head) f in
+        let w = l .inv .1 .1 .1 (p .tree) (p .is) in
+        let y = walks.going-next w some in
+        let ky = walks.kind-below (walks.going-kind w some) (c .before .before .before .before .before .before .before .before .before .before .before .if1 .taken) in
+        let wy = walks.going-statement w some (p .within) in
+        let ey = c .before .before .before .before .before .before .before .before .before .before .before .before .before .statement-end .ensures (y .head) (y .head-is) in
+        let own-cell = there (l .s .cells) (getD (s .args .words .now) (l .at + 1) 0) _ (omega (arith, l .inv .1 .1 .0, walks.going-own w some ky, target-below (y .head) wy ky, s .pre .1 .1 .0)) in
+        let read-cell = there (l .s .cells) (c .before .before .before .before .before .before .before .source .result) _ (omega (arith, l .inv .1 .1 .0, c .before .before .before .before .before .before .before .source .ensures (y .head) (walks.going-part w some (c .before .before .before .before .before .before .before .before .before .before .before .before .before .statement-end .result) ey), source-below (y .head) wy ky, s .pre .1 .1 .0)) in
+        let j = walks.going-over G some k _ _ (ap (λ (z : Cell). z .range) own-cell ∙ ap (λ (v : ℕ). states.get (l .s) v) own) (ap (λ (z : Cell). z .range) read-cell ∙ ap (λ (v : ℕ). states.get (l .s) v) src) (c .before .before .before .before .before .before .before .before .before .before .if2 .taken) (sym (c .before .enum-told .given .1) ∙ c .before .before .before .change .ensures (x .head) f) in
+        record { out = c .refused .ensures ∙ j .out; marks = j .marks }
 
--- src/walk.rt:71:29
+-- src/walk.rt:73:29
 list-enum-told-2 : (t : ℕ) → list-lts.Need-enum-told-2 (list-claims t) (list-at t) list.Post list-Inv-loop list-μ-loop
 list-enum-told-2 t c = search needs
 
--- src/walk.rt:71:29
+-- src/walk.rt:73:29
 list-empty-requires : (t : ℕ) → list-lts.Need-empty-requires (list-claims t) (list-at t) list.Post list-Inv-loop list-μ-loop
 list-empty-requires t c κs = tt
 
--- src/walk.rt:74:40
+-- src/walk.rt:56:5
+list-loop-less : (t : ℕ) → list-lts.Need-loop-less (list-claims t) (list-at t) list.Post list-Inv-loop list-μ-loop
+list-loop-less t c = omega (arith, c .before .before .before .before .before .before .before .before .before .before .before .before .before .before .before .before .before .loop-test .taken)
+
+-- src/walk.rt:56:5
+list-loop-again : (t : ℕ) → list-lts.Need-loop-again (list-claims t) (list-at t) list.Post list-Inv-loop list-μ-loop
+list-loop-again t c =
+    let p = c .before .before .before .before .before .before .before .before .before .before .before .before .before .before .before .before .before .before .before .before .before .before .pre .1 .0 in
+    let w0 = c .before .before .before .before .before .before .before .before .before .before .before .before .before .before .before .before .before .before .loop .inv .1 .1 .1 (p .tree) (p .is) in
+    let x0 = walks.going-next w0 (c .before .before .before .before .before .before .before .before .before .before .before .before .before .before .before .before .before .loop-test .taken) in
+    (omega (arith, c .before .before .before .before .before .before .before .before .before .before .before .before .before .before .before .before .statement-end .ensures (x0 .head) (x0 .head-is), statement-some (x0 .head)), (c .before .before .before .before .before .before .before .before .before .before .before .before .before .before .before .before .before .before .loop .inv .1 .0, (rw (c .empty .ensures), λ t h.
+        let s = c .before .before .before .before .before .before .before .before .before .before .before .before .before .before .before .before .before .before .before .before .before .before in
+        let l = c .before .before .before .before .before .before .before .before .before .before .before .before .before .before .before .before .before .before .loop in
+        let G = l .inv .1 .1 .1 t h in
+        let some = c .before .before .before .before .before .before .before .before .before .before .before .before .before .before .before .before .before .loop-test .taken in
+        let x = walks.going-next G some in
+        let e = c .before .before .before .before .before .before .before .before .before .before .before .before .before .before .before .before .statement-end .ensures (x .head) (x .head-is) in
+        let f = walks.going-part G some (c .before .before .before .before .before .before .before .before .before .before .before .before .before .before .before .before .statement-end .result) e in
+        let k = walks.kind-below (walks.going-kind G some) (c .before .before .before .before .before .before .before .before .before .before .before .before .before .before .if1 .taken) in
+        let p = s .pre .1 .0 in
+        let own = walks.going-own G some k in
+        let src = c .before .before .before .before .before .before .before .before .before .before .source .ensures (x .head) f in
+        let w = l .inv .1 .1 .1 (p .tree) (p .is) in
+        let y = walks.going-next w some in
+        let ky = walks.kind-below (walks.going-kind w some) (c .before .before .before .before .before .before .before .before .before .before .before .before .before .before .if1 .taken) in
+        let wy = walks.going-statement w some (p .within) in
+        let ey = c .before .before .before .before .before .before .before .before .before .before .before .before .before .before .before .before .statement-end .ensures (y .head) (y .head-is) in
+        let own-cell = there (l .s .cells) (getD (s .args .words .now) (l .at + 1) 0) _ (omega (arith, l .inv .1 .1 .0, walks.going-own w some ky, target-below (y .head) wy ky, s .pre .1 .1 .0)) in
+        let read-cell = there (l .s .cells) (c .before .before .before .before .before .before .before .before .before .before .source .result) _ (omega (arith, l .inv .1 .1 .0, c .before .before .before .before .before .before .before .before .before .before .source .ensures (y .head) (walks.going-part w some (c .before .before .before .before .before .before .before .before .before .before .before .before .before .before .before .before .statement-end .result) ey), source-below (y .head) wy ky, s .pre .1 .1 .0)) in
+        walks.going-changed G some k _ _ (ap (λ (z : Cell). z .range) own-cell ∙ ap (λ (v : ℕ). states.get (l .s) v) own) (ap (λ (z : Cell). z .range) read-cell ∙ ap (λ (v : ℕ). states.get (l .s) v) src) (c .before .before .before .before .before .before .before .before .before .before .before .before .before .before .before .before .statement-end .result) e (sym (c .before .before .before .before .range .given .1) ∙ c .before .before .before .before .before .before .change .ensures (x .head) f) (c .empty .result) (c .empty .ensures ∙ put-none (l .s) (plain.target (x .head)) (c .before .before .before .before .before .before .before .before .before .before .before .before .before .if2 .taken) (c .before .enum-told2 .given .1)))))
+
+-- src/walk.rt:76:40
 list-enum-told-3 : (t : ℕ) → list-lts.Need-enum-told-3 (list-claims t) (list-at t) list.Post list-Inv-loop list-μ-loop
 list-enum-told-3 t c = search needs
 
--- src/walk.rt:74:25
+-- src/walk.rt:76:25
 list-mul-t46 : (t : ℕ) → list-lts.Need-mul-t46 (list-claims t) (list-at t) list.Post list-Inv-loop list-μ-loop
 list-mul-t46 t c =
     let s = c .before .before .before .before .before .before .before .before .before .before .before .before .before .before .before .before .before .before .before .before .before in
@@ -971,7 +1031,7 @@ list-mul-t46 t c =
     let w = walks.going-statement G some (p .within) in
     omega (arith, walks.going-own G some k, target-below (x .head) w k, s .pre .1 .1 .0)
 
--- src/walk.rt:74:25
+-- src/walk.rt:76:25
 list-element-set-from-s : (t : ℕ) → list-lts.Need-element-set-from-s (list-claims t) (list-at t) list.Post list-Inv-loop list-μ-loop
 list-element-set-from-s t c =
     let s = c .before .before .before .before .before .before .before .before .before .before .before .before .before .before .before .before .before .before .before .before .before in
@@ -986,7 +1046,59 @@ list-element-set-from-s t c =
     let w = walks.going-statement G some (p .within) in
     omega (arith, walks.going-own G some k, target-below (x .head) w k, s .pre .1 .1 .0)
 
--- src/walk.rt:79:31
+-- src/walk.rt:56:5
+list-loop-less-2 : (t : ℕ) → list-lts.Need-loop-less-2 (list-claims t) (list-at t) list.Post list-Inv-loop list-μ-loop
+list-loop-less-2 t c = omega (arith, c .before .before .before .before .before .before .before .before .before .before .before .before .before .before .before .before .loop-test .taken)
+
+-- src/walk.rt:56:5
+list-loop-again-2 : (t : ℕ) → list-lts.Need-loop-again-2 (list-claims t) (list-at t) list.Post list-Inv-loop list-μ-loop
+list-loop-again-2 t c =
+    let p = c .before .before .before .before .before .before .before .before .before .before .before .before .before .before .before .before .before .before .before .before .before .pre .1 .0 in
+    let w0 = c .before .before .before .before .before .before .before .before .before .before .before .before .before .before .before .before .before .loop .inv .1 .1 .1 (p .tree) (p .is) in
+    let x0 = walks.going-next w0 (c .before .before .before .before .before .before .before .before .before .before .before .before .before .before .before .before .loop-test .taken) in
+    (omega (arith, c .before .before .before .before .before .before .before .before .before .before .before .before .before .before .before .statement-end .ensures (x0 .head) (x0 .head-is), statement-some (x0 .head)), (c .before .before .before .before .before .before .before .before .before .before .before .before .before .before .before .before .before .loop .inv .1 .0, (simp length-set (c .before .before .before .before .before .before .before .before .before .before .before .before .before .before .before .before .before .loop .inv .1 .1 .0), λ t h.
+        let s = c .before .before .before .before .before .before .before .before .before .before .before .before .before .before .before .before .before .before .before .before .before in
+        let l = c .before .before .before .before .before .before .before .before .before .before .before .before .before .before .before .before .before .loop in
+        let G = l .inv .1 .1 .1 t h in
+        let some = c .before .before .before .before .before .before .before .before .before .before .before .before .before .before .before .before .loop-test .taken in
+        let x = walks.going-next G some in
+        let e = c .before .before .before .before .before .before .before .before .before .before .before .before .before .before .before .statement-end .ensures (x .head) (x .head-is) in
+        let f = walks.going-part G some (c .before .before .before .before .before .before .before .before .before .before .before .before .before .before .before .statement-end .result) e in
+        let k = walks.kind-below (walks.going-kind G some) (c .before .before .before .before .before .before .before .before .before .before .before .before .before .if1 .taken) in
+        let p = s .pre .1 .0 in
+        let own = walks.going-own G some k in
+        let src = c .before .before .before .before .before .before .before .before .before .source .ensures (x .head) f in
+        let w = l .inv .1 .1 .1 (p .tree) (p .is) in
+        let y = walks.going-next w some in
+        let ky = walks.kind-below (walks.going-kind w some) (c .before .before .before .before .before .before .before .before .before .before .before .before .before .if1 .taken) in
+        let wy = walks.going-statement w some (p .within) in
+        let ey = c .before .before .before .before .before .before .before .before .before .before .before .before .before .before .before .statement-end .ensures (y .head) (y .head-is) in
+        let own-cell = there (l .s .cells) (getD (s .args .words .now) (l .at + 1) 0) _ (omega (arith, l .inv .1 .1 .0, walks.going-own w some ky, target-below (y .head) wy ky, s .pre .1 .1 .0)) in
+        let read-cell = there (l .s .cells) (c .before .before .before .before .before .before .before .before .before .source .result) _ (omega (arith, l .inv .1 .1 .0, c .before .before .before .before .before .before .before .before .before .source .ensures (y .head) (walks.going-part w some (c .before .before .before .before .before .before .before .before .before .before .before .before .before .before .before .statement-end .result) ey), source-below (y .head) wy ky, s .pre .1 .1 .0)) in
+        walks.going-changed G some k _ _ (ap (λ (z : Cell). z .range) own-cell ∙ ap (λ (v : ℕ). states.get (l .s) v) own) (ap (λ (z : Cell). z .range) read-cell ∙ ap (λ (v : ℕ). states.get (l .s) v) src) (c .before .before .before .before .before .before .before .before .before .before .before .before .before .before .before .statement-end .result) e (sym (c .before .before .before .range .given .1) ∙ c .before .before .before .before .before .change .ensures (x .head) f) _ (put-span (l .s) (getD (s .args .words .now) (l .at + 1) 0) (c .before .before .before .before .before .before .before .before .before .before .before .before .if2 .taken) (c .enum-told3 .given .1) ∙ ap (λ (v : ℕ). states.put (l .s) v _) own))))
+
+-- src/walk.rt:56:5
+list-loop-less-3 : (t : ℕ) → list-lts.Need-loop-less-3 (list-claims t) (list-at t) list.Post list-Inv-loop list-μ-loop
+list-loop-less-3 t c = omega (arith, c .before .before .before .before .loop-test .taken)
+
+-- src/walk.rt:56:5
+list-loop-again-3 : (t : ℕ) → list-lts.Need-loop-again-3 (list-claims t) (list-at t) list.Post list-Inv-loop list-μ-loop
+list-loop-again-3 t c =
+    let p = c .before .before .before .before .before .before .before .before .before .pre .1 .0 in
+    let w0 = c .before .before .before .before .before .loop .inv .1 .1 .1 (p .tree) (p .is) in
+    let x0 = walks.going-next w0 (c .before .before .before .before .loop-test .taken) in
+    (omega (arith, c .before .before .before .statement-end .ensures (x0 .head) (x0 .head-is), statement-some (x0 .head)), (c .before .before .before .before .before .loop .inv .1 .0, (c .before .before .before .before .before .loop .inv .1 .1 .0, λ t h.
+        let s = c .before .before .before .before .before .before .before .before .before in
+        let l = c .before .before .before .before .before .loop in
+        let G = l .inv .1 .1 .1 t h in
+        let some = c .before .before .before .before .loop-test .taken in
+        let x = walks.going-next G some in
+        let e = c .before .before .before .statement-end .ensures (x .head) (x .head-is) in
+        let f = walks.going-part G some (c .before .before .before .statement-end .result) e in
+        let k = walks.kind-below (walks.going-kind G some) (c .before .if1 .taken) in
+        walks.going-dead G some k (c .before .before .before .statement-end .result) e (c .if2 .left))))
+
+-- src/walk.rt:81:31
 list-mul-statement : (t : ℕ) → list-lts.Need-mul-statement (list-claims t) (list-at t) list.Post list-Inv-loop list-μ-loop
 list-mul-statement t c =
     let s = c .before .before .before .before .before .before .before .before in
@@ -999,7 +1111,7 @@ list-mul-statement t c =
     let inside = walks.going-inside G some in
     omega (arith, inside, statement-some (x .head), s .good .0 .0, s .good .0 .1, s .pre .1 .1 .1 .1)
 
--- src/walk.rt:79:31
+-- src/walk.rt:81:31
 list-sub-statement : (t : ℕ) → list-lts.Need-sub-statement (list-claims t) (list-at t) list.Post list-Inv-loop list-μ-loop
 list-sub-statement t c =
     let s = c .before .before .before .before .before .before .before .before in
@@ -1012,7 +1124,7 @@ list-sub-statement t c =
     let inside = walks.going-inside G some in
     omega (arith, inside, statement-some (x .head), s .good .0 .0, s .good .0 .1, s .pre .1 .1 .1 .1)
 
--- src/walk.rt:79:31
+-- src/walk.rt:81:31
 list-part-statement-start : (t : ℕ) → list-lts.Need-part-statement-start (list-claims t) (list-at t) list.Post list-Inv-loop list-μ-loop
 list-part-statement-start t c =
     let s = c .before .before .before .before .before .before .before .before in
@@ -1025,7 +1137,7 @@ list-part-statement-start t c =
     let inside = walks.going-inside G some in
     omega (arith, inside, statement-some (x .head), s .good .0 .0, s .good .0 .1, s .pre .1 .1 .1 .1)
 
--- src/walk.rt:79:31
+-- src/walk.rt:81:31
 list-part-statement-end : (t : ℕ) → list-lts.Need-part-statement-end (list-claims t) (list-at t) list.Post list-Inv-loop list-μ-loop
 list-part-statement-end t c =
     let s = c .before .before .before .before .before .before .before .before in
@@ -1038,7 +1150,7 @@ list-part-statement-end t c =
     let inside = walks.going-inside G some in
     omega (arith, inside, statement-some (x .head), s .good .0 .0, s .good .0 .1, s .pre .1 .1 .1 .1)
 
--- src/walk.rt:79:48
+-- src/walk.rt:81:49
 list-add-statement : (t : ℕ) → list-lts.Need-add-statement (list-claims t) (list-at t) list.Post list-Inv-loop list-μ-loop
 list-add-statement t c =
     let s = c .before .before .before .before .before .before .before .before .before in
@@ -1051,7 +1163,7 @@ list-add-statement t c =
     let inside = walks.going-inside G some in
     omega (arith, inside, statement-some (x .head), s .good .0 .0, s .good .0 .1, s .pre .1 .1 .1 .1)
 
--- src/walk.rt:79:17
+-- src/walk.rt:81:17
 list-statement-requires : (t : ℕ) → list-lts.Need-statement-requires (list-claims t) (list-at t) list.Post list-Inv-loop list-μ-loop
 list-statement-requires t c κs =
     let s = c .before .before .before .before .before .before .before .before .before .before in
@@ -1068,15 +1180,15 @@ list-statement-requires t c κs =
         (omega (arith, walks.going-first-word G some (p .within) (c .before .before .before .before .statement-end .result) e, c .before .before .if1 .left),
           (s .pre .1 .1 .0, (s .pre .1 .1 .1 .0, omega (arith, ap length f, inside, s .pre .1 .1 .1 .1, l .inv .1 .0))))))
 
--- src/walk.rt:82:17
+-- src/walk.rt:84:17
 list-enum-told-4 : (t : ℕ) → list-lts.Need-enum-told-4 (list-claims t) (list-at t) list.Post list-Inv-loop list-μ-loop
 list-enum-told-4 t c = search needs
 
--- src/walk.rt:82:17
+-- src/walk.rt:84:17
 list-same-length-2 : (t : ℕ) → list-lts.Need-same-length-2 (list-claims t) (list-at t) list.Post list-Inv-loop list-μ-loop
 list-same-length-2 t c = c .before .before .before .before .statement .kept .1 .1 .1 .1 .1 .0 ∙ c .before .before .before .before .before .before .before .before .before .before .before .loop .inv .1 .0
 
--- src/walk.rt:82:17
+-- src/walk.rt:84:17
 list-returns-2 : (t : ℕ) → list-lts.Need-returns-2 (list-claims t) (list-at t) list.Post list-Inv-loop list-μ-loop
 list-returns-2 t c =
     λ t h.
@@ -1092,17 +1204,25 @@ list-returns-2 t c =
 list-enum-told-5 : (t : ℕ) → list-lts.Need-enum-told-5 (list-claims t) (list-at t) list.Post list-Inv-loop list-μ-loop
 list-enum-told-5 t c = search needs
 
--- src/walk.rt:87:9
-list-sub-left : (t : ℕ) → list-lts.Need-sub-left (list-claims t) (list-at t) list.Post list-Inv-loop list-μ-loop
-list-sub-left t c = omega (arith, c .before .before .before .loop-test .taken)
+-- src/walk.rt:56:5
+list-loop-less-4 : (t : ℕ) → list-lts.Need-loop-less-4 (list-claims t) (list-at t) list.Post list-Inv-loop list-μ-loop
+list-loop-less-4 t c = omega (arith, c .before .before .before .before .before .before .before .before .before .before .before .loop-test .taken)
 
 -- src/walk.rt:56:5
-list-loop-less : (t : ℕ) → list-lts.Need-loop-less (list-claims t) (list-at t) list.Post list-Inv-loop list-μ-loop
-list-loop-less t c = omega (arith, c .before .before .before .loop-test .taken)
-
--- src/walk.rt:56:5
-list-loop-again : (t : ℕ) → list-lts.Need-loop-again (list-claims t) (list-at t) list.Post list-Inv-loop list-μ-loop
-list-loop-again t c = ?
+list-loop-again-4 : (t : ℕ) → list-lts.Need-loop-again-4 (list-claims t) (list-at t) list.Post list-Inv-loop list-μ-loop
+list-loop-again-4 t c =
+    let p = c .before .before .before .before .before .before .before .before .before .before .before .before .before .before .before .before .pre .1 .0 in
+    let w0 = c .before .before .before .before .before .before .before .before .before .before .before .before .loop .inv .1 .1 .1 (p .tree) (p .is) in
+    let x0 = walks.going-next w0 (c .before .before .before .before .before .before .before .before .before .before .before .loop-test .taken) in
+    (omega (arith, c .before .before .before .before .before .before .before .before .before .before .statement-end .ensures (x0 .head) (x0 .head-is), statement-some (x0 .head)), (c .before .before .before .before .before .statement .kept .1 .1 .1 .1 .1 .0 ∙ c .before .before .before .before .before .before .before .before .before .before .before .before .loop .inv .1 .0, (answer-long (c .before .before .before .before .before .statement .result) (c .before .before .before .before .before .statement .ok), λ t h.
+        let s = c .before .before .before .before .before .before .before .before .before .before .before .before .before .before .before .before in
+        let l = c .before .before .before .before .before .before .before .before .before .before .before .before .loop in
+        let G = l .inv .1 .1 .1 t h in
+        let some = c .before .before .before .before .before .before .before .before .before .before .before .loop-test .taken in
+        let x = walks.going-next G some in
+        let e = c .before .before .before .before .before .before .before .before .before .before .statement-end .ensures (x .head) (x .head-is) in
+        let f = walks.going-part G some (c .before .before .before .before .before .before .before .before .before .before .statement-end .result) e in
+        walks.going-good G some (c .before .before .before .before .before .statement .ensures (x .head) f) (c .before .before .before .before .before .before .before .before .before .before .statement-end .result) e (c .before .enum-told5 .given .1))))
 
 -- src/walk.rt:89:5
 list-good-requires : (t : ℕ) → list-lts.Need-good-requires (list-claims t) (list-at t) list.Post list-Inv-loop list-μ-loop
@@ -2240,6 +2360,7 @@ pub +branch+growing+list+looped+normalize+pass+search+settle+statement+unrolled-
     (list-shared-slice-read-left t)
     (list-loop-holds t)
     (list-statement-end-requires t)
+    (list-sub-left t)
     (list-mul-if1 t)
     (list-shared-slice-read-if1 t)
     (list-add-own t)
@@ -2267,9 +2388,15 @@ pub +branch+growing+list+looped+normalize+pass+search+settle+statement+unrolled-
     (list-returns t)
     (list-enum-told-2 t)
     (list-empty-requires t)
+    (list-loop-less t)
+    (list-loop-again t)
     (list-enum-told-3 t)
     (list-mul-t46 t)
     (list-element-set-from-s t)
+    (list-loop-less-2 t)
+    (list-loop-again-2 t)
+    (list-loop-less-3 t)
+    (list-loop-again-3 t)
     (list-mul-statement t)
     (list-sub-statement t)
     (list-part-statement-start t)
@@ -2280,9 +2407,8 @@ pub +branch+growing+list+looped+normalize+pass+search+settle+statement+unrolled-
     (list-same-length-2 t)
     (list-returns-2 t)
     (list-enum-told-5 t)
-    (list-sub-left t)
-    (list-loop-less t)
-    (list-loop-again t)
+    (list-loop-less-4 t)
+    (list-loop-again-4 t)
     (list-good-requires t)
     (list-same-length-3 t)
     (list-returns-3 t))
