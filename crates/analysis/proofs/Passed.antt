@@ -8,4 +8,4 @@ use Rattle.states.proofs.Answer as answer
 use Rattle.states.proofs.Answer.Laws as answer-laws
 
 pub answer-long : (r : Answer) → Is answer.the-row r (vals answer.the-type answer-laws.the-laws r) → length (r .state .cells) ≡ 64
-answer-long r told = sym (length-map (r .state .cells) _) ∙ ?
+answer-long r told = sym (length-map (r .state .cells) _) ∙ told .1 .1 .1 .0 .1 .1 .1 .0 .1 .0 .1

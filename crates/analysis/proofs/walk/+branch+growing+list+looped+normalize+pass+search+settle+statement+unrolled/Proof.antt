@@ -1075,7 +1075,7 @@ list-loop-again-2 t c =
         let ey = c .before .before .before .before .before .before .before .before .before .before .before .before .before .before .before .statement-end .ensures (y .head) (y .head-is) in
         let own-cell = there (l .s .cells) (getD (s .args .words .now) (l .at + 1) 0) _ (omega (arith, l .inv .1 .1 .0, walks.going-own w some ky, target-below (y .head) wy ky, s .pre .1 .1 .0)) in
         let read-cell = there (l .s .cells) (c .before .before .before .before .before .before .before .before .before .source .result) _ (omega (arith, l .inv .1 .1 .0, c .before .before .before .before .before .before .before .before .before .source .ensures (y .head) (walks.going-part w some (c .before .before .before .before .before .before .before .before .before .before .before .before .before .before .before .statement-end .result) ey), source-below (y .head) wy ky, s .pre .1 .1 .0)) in
-        walks.going-changed G some k _ _ (ap (λ (z : Cell). z .range) own-cell ∙ ap (λ (v : ℕ). states.get (l .s) v) own) (ap (λ (z : Cell). z .range) read-cell ∙ ap (λ (v : ℕ). states.get (l .s) v) src) (c .before .before .before .before .before .before .before .before .before .before .before .before .before .before .before .statement-end .result) e (sym (c .before .before .before .range .given .1) ∙ c .before .before .before .before .before .change .ensures (x .head) f) _ (put-span (l .s) (getD (s .args .words .now) (l .at + 1) 0) (c .before .before .before .before .before .before .before .before .before .before .before .before .if2 .taken) (c .enum-told3 .given .1) ∙ ap (λ (v : ℕ). states.put (l .s) v _) own))))
+        walks.going-changed G some k _ _ (ap (λ (z : Cell). z .range) own-cell ∙ ap (λ (v : ℕ). states.get (l .s) v) own) (ap (λ (z : Cell). z .range) read-cell ∙ ap (λ (v : ℕ). states.get (l .s) v) src) (c .before .before .before .before .before .before .before .before .before .before .before .before .before .before .before .statement-end .result) e (sym (c .before .before .before .range .given .1) ∙ c .before .before .before .before .before .change .ensures (x .head) f) _ (put-span (l .s) (getD (s .args .words .now) (l .at + 1) 0) (c .before .before .before .before .before .before .before .before .before .before .before .before .if2 .taken) (c .enum-told3 .given .1) ∙ ap (λ (v : ℕ). states.put (l .s) v (c .before .before .before .range .given .0 .0)) own))))
 
 -- src/walk.rt:56:5
 list-loop-less-3 : (t : ℕ) → list-lts.Need-loop-less-3 (list-claims t) (list-at t) list.Post list-Inv-loop list-μ-loop
