@@ -10,7 +10,8 @@ use ranges::Range;
 use states::State;
 use states::Verdict;
 ghost use mathlib.Core.Path.{_≡_};
-ghost use Prim.Native.Nat.{ℕ, _+_, _-_, _≤_};
+ghost use Prim.Native.Nat.{ℕ, _+_, _-_, _≤_, _^_};
+ghost use Rattle.analysis.specs.declared.Values.the-variants.{From};
 ghost use Rattle.analysis.specs.Loops as stages;
 ghost use Rattle.analysis.specs.Outcomes.{passed, grown as settling, settled-on, looped};
 ghost use Rattle.states.specs.Answers.{Gives, Refuses};
@@ -188,6 +189,7 @@ fn count(start: u32, end: u32) -> u64
 // The values of a given variable, by whether the state is not empty and by the variable's range in it.
 pub fn values(live: bool, range: Range) -> Values
     ensures { λ r. ⌜ r ≡ stages.values-of live range ⌝ }
+    ensures { λ r. ⌜ ((start count : ℕ) → r ≡ From start count → start + count ≤ 2 ^ 32) ⌝ }
 {
     if !live {
         return Values::Unbounded;

@@ -1443,35 +1443,55 @@ looped-returns-5 t c =
 
 abbrev normalize-Inv-loop : normalize-lts.InvT-loop
 normalize-Inv-loop given place body base n unroll marks₀ state v left₀ x₀ joined₀ marks left x joined =
-    ?
+    (length marks ≡ length marks₀) × ((x + left ≤ 4294967296) × ((state .live ≡ true) × ((b : Statements) → body ≡ code.program b →
+    Leads answered (noted.normalized (setting n unroll) place given base b state) marks₀ (noted.enumerated (setting n unroll) place (getD given 0 0) (take (length given - 1) (drop 1 given)) base b state left x joined) marks)))
 
 abbrev normalize-μ-loop : normalize-lts.MeasureT-loop
-normalize-μ-loop given place body base n unroll marks₀ state v left₀ x₀ joined₀ marks left x joined =
-    ?
+normalize-μ-loop given place body base n unroll marks₀ state v left₀ x₀ joined₀ marks left x joined = left
 
 -- src/walk.rt:381:9
 normalize-list-requires : (t : ℕ) → normalize-lts.Need-list-requires (normalize-claims t) (normalize-at t) normalize.Post normalize-Inv-loop normalize-μ-loop
-normalize-list-requires t c κs = ?
+normalize-list-requires t c κs =
+    let s = c .before .before .before .before .before in
+    (omega (arith, s .pre .0, c .before .if1 .taken), (s .pre .1 .1 .0, (s .pre .1 .1 .1 .0, (s .pre .1 .1 .1 .1 .0, s .pre .1 .1 .1 .1 .1 .1))))
 
 -- src/walk.rt:381:9
 normalize-same-length : (t : ℕ) → normalize-lts.Need-same-length (normalize-claims t) (normalize-at t) normalize.Post normalize-Inv-loop normalize-μ-loop
-normalize-same-length t c = ?
+normalize-same-length t c = c .before .before .list .kept .1 .1 .1 .1 .1 .0
 
 -- src/walk.rt:381:9
 normalize-returns : (t : ℕ) → normalize-lts.Need-returns (normalize-claims t) (normalize-at t) normalize.Post normalize-Inv-loop normalize-μ-loop
-normalize-returns t c = ?
+normalize-returns t c =
+    λ b h.
+        let s = c .before .before .before .before .before .before .before .before in
+        let g = setting (s .args .n) (s .args .unroll) in
+        given-laws.nothing-given g (s .args .place) (s .args .base) b (s .args .t7) (s .args .given .now) (c .before .before .before .before .if1 .taken) (c .before .before .list .ensures b h)
 
 -- src/walk.rt:383:13
 normalize-shared-slice-read-v : (t : ℕ) → normalize-lts.Need-shared-slice-read-v (normalize-claims t) (normalize-at t) normalize.Post normalize-Inv-loop normalize-μ-loop
-normalize-shared-slice-read-v t c = ?
+normalize-shared-slice-read-v t c =
+    let s = c .before .before .before .before .before in
+    let ne = c .before .if1 .left in
+    let some : 0 < length (s .args .given .now) = omega arith in
+    some
 
 -- src/walk.rt:384:16
 normalize-mul-cell : (t : ℕ) → normalize-lts.Need-mul-cell (normalize-claims t) (normalize-at t) normalize.Post normalize-Inv-loop normalize-μ-loop
-normalize-mul-cell t c = ?
+normalize-mul-cell t c =
+    let s = c .before .before .before .before .before in
+    let ne = c .before .if1 .left in
+    let some : 0 < length (s .args .given .now) = omega arith in
+    let b = given-laws.first-given (s .args .given .now) (s .pre .1 .0) some in
+    omega (arith, s .pre .1 .1 .1 .0)
 
 -- src/walk.rt:384:16
 normalize-element-copy-out-cell : (t : ℕ) → normalize-lts.Need-element-copy-out-cell (normalize-claims t) (normalize-at t) normalize.Post normalize-Inv-loop normalize-μ-loop
-normalize-element-copy-out-cell t c = ?
+normalize-element-copy-out-cell t c =
+    let s = c .before .before .before .before .before in
+    let ne = c .before .if1 .left in
+    let some : 0 < length (s .args .given .now) = omega arith in
+    let b = given-laws.first-given (s .args .given .now) (s .pre .1 .0) some in
+    omega (arith, s .pre .1 .1 .1 .0)
 
 -- src/walk.rt:386:9
 normalize-values-requires : (t : ℕ) → normalize-lts.Need-values-requires (normalize-claims t) (normalize-at t) normalize.Post normalize-Inv-loop normalize-μ-loop
@@ -1487,7 +1507,16 @@ normalize-refused-requires t c κs = tt
 
 -- src/walk.rt:391:13
 normalize-returns-2 : (t : ℕ) → normalize-lts.Need-returns-2 (normalize-claims t) (normalize-at t) normalize.Post normalize-Inv-loop normalize-μ-loop
-normalize-returns-2 t c = ?
+normalize-returns-2 t c =
+    λ b h.
+        let s = c .before .before .before .before .before .before .before .before .before .before in
+        let ne = c .before .before .before .before .before .before .if1 .left in
+        let some : 0 < length (s .args .given .now) = omega arith in
+        let low = given-laws.first-given (s .args .given .now) (s .pre .1 .0) some in
+        let g = setting (s .args .n) (s .args .unroll) in
+        let q = c .before .before .before .values .ensures .0 ∙ ap (λ (z : Cell). stages.values-of (s .args .t7 .live) (z .range)) (there (s .args .t7 .cells) (getD (s .args .given .now) 0 0) _ (omega (arith, s .pre .1 .1 .1 .0, state-long (s .args .t7) (s .good .1 .1 .1 .1 .1 .1 .0)))) in
+        let j = given-laws.as-list g (s .args .place) (s .args .base) b (s .args .t7) (s .args .given .now) some (given-laws.given-unbounded g (s .args .place) (s .args .base) b (s .args .t7) (getD (s .args .given .now) 0 0) (take (length (s .args .given .now) - 1) (drop 1 (s .args .given .now))) (s .args .marks .now) q (c .before .enum-told .given .1)) in
+        record { out = c .refused .ensures ∙ j .out; marks = j .marks }
 
 -- src/walk.rt:394:13
 normalize-enum-told-2 : (t : ℕ) → normalize-lts.Need-enum-told-2 (normalize-claims t) (normalize-at t) normalize.Post normalize-Inv-loop normalize-μ-loop
@@ -1499,7 +1528,16 @@ normalize-refused-requires-2 t c κs = tt
 
 -- src/walk.rt:394:13
 normalize-returns-3 : (t : ℕ) → normalize-lts.Need-returns-3 (normalize-claims t) (normalize-at t) normalize.Post normalize-Inv-loop normalize-μ-loop
-normalize-returns-3 t c = ?
+normalize-returns-3 t c =
+    λ b h.
+        let s = c .before .before .before .before .before .before .before .before .before .before in
+        let ne = c .before .before .before .before .before .before .if1 .left in
+        let some : 0 < length (s .args .given .now) = omega arith in
+        let low = given-laws.first-given (s .args .given .now) (s .pre .1 .0) some in
+        let g = setting (s .args .n) (s .args .unroll) in
+        let q = c .before .before .before .values .ensures .0 ∙ ap (λ (z : Cell). stages.values-of (s .args .t7 .live) (z .range)) (there (s .args .t7 .cells) (getD (s .args .given .now) 0 0) _ (omega (arith, s .pre .1 .1 .1 .0, state-long (s .args .t7) (s .good .1 .1 .1 .1 .1 .1 .0)))) in
+        let j = given-laws.as-list g (s .args .place) (s .args .base) b (s .args .t7) (s .args .given .now) some (given-laws.given-too-many g (s .args .place) (s .args .base) b (s .args .t7) (getD (s .args .given .now) 0 0) (take (length (s .args .given .now) - 1) (drop 1 (s .args .given .now))) (s .args .marks .now) q (c .before .enum-told2 .given .1)) in
+        record { out = c .refused2 .ensures ∙ j .out; marks = j .marks }
 
 -- src/walk.rt:396:22
 normalize-enum-known-values : (t : ℕ) → normalize-lts.Need-enum-known-values (normalize-claims t) (normalize-at t) normalize.Post normalize-Inv-loop normalize-μ-loop
@@ -1507,7 +1545,7 @@ normalize-enum-known-values t c = search needs
 
 -- src/walk.rt:398:17
 normalize-cast-x : (t : ℕ) → normalize-lts.Need-cast-x (normalize-claims t) (normalize-at t) normalize.Post normalize-Inv-loop normalize-μ-loop
-normalize-cast-x t c = ?
+normalize-cast-x t c = omega (arith, c .before .before .before .values .ensures .1 (c .before .values2 .given .0 .0) (c .before .values2 .given .0 .1 .0) (c .before .values2 .given .1))
 
 -- src/walk.rt:401:9
 normalize-empty-requires : (t : ℕ) → normalize-lts.Need-empty-requires (normalize-claims t) (normalize-at t) normalize.Post normalize-Inv-loop normalize-μ-loop
@@ -1515,43 +1553,87 @@ normalize-empty-requires t c κs = tt
 
 -- src/walk.rt:402:5
 normalize-loop-holds : (t : ℕ) → normalize-lts.Need-loop-holds (normalize-claims t) (normalize-at t) normalize.Post normalize-Inv-loop normalize-μ-loop
-normalize-loop-holds t c = ?
+normalize-loop-holds t c =
+    let s = c .before .before .before .before .before .before .before .before .before .before .before in
+    let v = c .before .before .before .before .values .ensures in
+    let told = c .before .before .values2 .given in
+    (refl, (omega (arith, v .1 (told .0 .0) (told .0 .1 .0) (told .1)), (given-laws.from-live (s .args .t7 .live) _ (sym (told .1) ∙ v .0), λ b h.
+        let s = c .before .before .before .before .before .before .before .before .before .before .before in
+        let ne = c .before .before .before .before .before .before .before .if1 .left in
+        let some : 0 < length (s .args .given .now) = omega arith in
+        let low = given-laws.first-given (s .args .given .now) (s .pre .1 .0) some in
+        let g = setting (s .args .n) (s .args .unroll) in
+        let q = c .before .before .before .before .values .ensures .0 ∙ ap (λ (z : Cell). stages.values-of (s .args .t7 .live) (z .range)) (there (s .args .t7 .cells) (getD (s .args .given .now) 0 0) _ (omega (arith, s .pre .1 .1 .1 .0, state-long (s .args .t7) (s .good .1 .1 .1 .1 .1 .1 .0)))) in
+        rw (c .empty .ensures) (given-laws.given-leads g (s .args .place) (s .args .base) b (s .args .t7) (s .args .given .now) some (s .args .marks .now) q (told .1)))))
 
 -- src/walk.rt:405:32
 normalize-cast-t35 : (t : ℕ) → normalize-lts.Need-cast-t35 (normalize-claims t) (normalize-at t) normalize.Post normalize-Inv-loop normalize-μ-loop
-normalize-cast-t35 t c = ?
+normalize-cast-t35 t c = omega (arith, c .before .loop .inv .1 .0, c .loop-test .taken)
 
 -- src/walk.rt:405:50
 normalize-cast-t36 : (t : ℕ) → normalize-lts.Need-cast-t36 (normalize-claims t) (normalize-at t) normalize.Post normalize-Inv-loop normalize-μ-loop
-normalize-cast-t36 t c = ?
+normalize-cast-t36 t c = omega (arith, c .before .loop .inv .1 .0, c .loop-test .taken)
 
 -- src/walk.rt:404:9
 normalize-mul-t40 : (t : ℕ) → normalize-lts.Need-mul-t40 (normalize-claims t) (normalize-at t) normalize.Post normalize-Inv-loop normalize-μ-loop
-normalize-mul-t40 t c = ?
+normalize-mul-t40 t c =
+    let s = c .before .before .before .before .before .before .before .before .before .before .before .before .before in
+    let ne = c .before .before .before .before .before .before .before .before .before .if1 .left in
+    let some : 0 < length (s .args .given .now) = omega arith in
+    let b = given-laws.first-given (s .args .given .now) (s .pre .1 .0) some in
+    omega (arith, s .pre .1 .1 .1 .0)
 
 -- src/walk.rt:404:9
 normalize-element-set-from-s : (t : ℕ) → normalize-lts.Need-element-set-from-s (normalize-claims t) (normalize-at t) normalize.Post normalize-Inv-loop normalize-μ-loop
-normalize-element-set-from-s t c = ?
+normalize-element-set-from-s t c =
+    let s = c .before .before .before .before .before .before .before .before .before .before .before .before .before in
+    let ne = c .before .before .before .before .before .before .before .before .before .if1 .left in
+    let some : 0 < length (s .args .given .now) = omega arith in
+    let b = given-laws.first-given (s .args .given .now) (s .pre .1 .0) some in
+    omega (arith, s .pre .1 .1 .1 .0)
 
 -- src/walk.rt:407:27
 normalize-sub-normalize : (t : ℕ) → normalize-lts.Need-sub-normalize (normalize-claims t) (normalize-at t) normalize.Post normalize-Inv-loop normalize-μ-loop
-normalize-sub-normalize t c = ?
+normalize-sub-normalize t c =
+    let s = c .before .before .before .before .before .before .before .before .before .before .before .before .before in
+    let ne = c .before .before .before .before .before .before .before .before .before .if1 .left in
+    let some : 0 < length (s .args .given .now) = omega arith in
+    omega arith
 
 -- src/walk.rt:407:27
 normalize-part-normalize-start : (t : ℕ) → normalize-lts.Need-part-normalize-start (normalize-claims t) (normalize-at t) normalize.Post normalize-Inv-loop normalize-μ-loop
-normalize-part-normalize-start t c = ?
+normalize-part-normalize-start t c =
+    let s = c .before .before .before .before .before .before .before .before .before .before .before .before .before in
+    let ne = c .before .before .before .before .before .before .before .before .before .if1 .left in
+    let some : 0 < length (s .args .given .now) = omega arith in
+    omega arith
 
 -- src/walk.rt:407:27
 normalize-part-normalize-end : (t : ℕ) → normalize-lts.Need-part-normalize-end (normalize-claims t) (normalize-at t) normalize.Post normalize-Inv-loop normalize-μ-loop
-normalize-part-normalize-end t c = ?
+normalize-part-normalize-end t c =
+    let s = c .before .before .before .before .before .before .before .before .before .before .before .before .before in
+    let ne = c .before .before .before .before .before .before .before .before .before .if1 .left in
+    let some : 0 < length (s .args .given .now) = omega arith in
+    omega arith
 
 -- src/walk.rt:407:40
 normalize-add-normalize : (t : ℕ) → normalize-lts.Need-add-normalize (normalize-claims t) (normalize-at t) normalize.Post normalize-Inv-loop normalize-μ-loop
-normalize-add-normalize t c = ?
+normalize-add-normalize t c =
+    let s = c .before .before .before .before .before .before .before .before .before .before .before .before .before .before in
+    let ne = c .before .before .before .before .before .before .before .before .before .before .if1 .left in
+    let some : 0 < length (s .args .given .now) = omega arith in
+    omega (arith, s .pre .1 .1 .1 .1 .1 .0, s .good)
 
 -- src/walk.rt:407:13
 normalize-normalize-requires : (t : ℕ) → normalize-lts.Need-normalize-requires (normalize-claims t) (normalize-at t) normalize.Post normalize-Inv-loop normalize-μ-loop
-normalize-normalize-requires t c κs = ?
+normalize-normalize-requires t c κs =
+    let s = c .before .before .before .before .before .before .before .before .before .before .before .before .before .before .before in
+    let ne = c .before .before .before .before .before .before .before .before .before .before .before .if1 .left in
+    let some : 0 < length (s .args .given .now) = omega arith in
+    let l = s .args .given .now in
+    let rest : length (take (length l - 1) (drop 1 l)) ≡ length l - 1 = (let e = ap length (given-laws.first-and-rest l some) in omega arith) in
+    (omega (arith, rest, s .pre .0), (given-laws.rest-given l (s .pre .1 .0) some, (s .pre .1 .1 .0, (s .pre .1 .1 .1 .0, (s .pre .1 .1 .1 .1 .0,
+      (omega (arith, rest, s .pre .1 .1 .1 .1 .1 .0, c .before .before .before .loop .inv .0), omega (arith, s .pre .1 .1 .1 .1 .1 .1, c .before .before .before .loop .inv .0)))))))
 
 -- src/walk.rt:410:13
 normalize-enum-told-3 : (t : ℕ) → normalize-lts.Need-enum-told-3 (normalize-claims t) (normalize-at t) normalize.Post normalize-Inv-loop normalize-μ-loop
@@ -1559,11 +1641,20 @@ normalize-enum-told-3 t c = search needs
 
 -- src/walk.rt:410:13
 normalize-same-length-2 : (t : ℕ) → normalize-lts.Need-same-length-2 (normalize-claims t) (normalize-at t) normalize.Post normalize-Inv-loop normalize-μ-loop
-normalize-same-length-2 t c = ?
+normalize-same-length-2 t c = c .before .before .before .before .normalize .kept .1 .1 .1 .1 .1 .1 .1 .0 ∙ c .before .before .before .before .before .before .before .before .loop .inv .0
 
 -- src/walk.rt:410:13
 normalize-returns-4 : (t : ℕ) → normalize-lts.Need-returns-4 (normalize-claims t) (normalize-at t) normalize.Post normalize-Inv-loop normalize-μ-loop
-normalize-returns-4 t c = ?
+normalize-returns-4 t c =
+    λ b h.
+        let s = c .before .before .before .before .before .before .before .before .before .before .before .before .before .before .before .before .before .before .before .before in
+        let l = c .before .before .before .before .before .before .before .before .loop in
+        let g = setting (s .args .n) (s .args .unroll) in
+        let v = getD (s .args .given .now) 0 0 in
+        let vs = take (length (s .args .given .now) - 1) (drop 1 (s .args .given .now)) in
+        let more : l .left ≡ suc (l .left - 1) = omega (arith, c .before .before .before .before .before .before .before .loop-test .taken) in
+        let q = subst (λ (z : State). Says answered (noted.normalized g (s .args .place + 1) vs (s .args .base) b z) (c .before .before .before .before .normalize .result) (l .marks) (c .before .before .before .before .normalize .last .1 .1 .1 .1 .1 .1 .1 .0)) (put-span (s .args .t7) v (l .inv .1 .1 .0) refl) (c .before .before .before .before .normalize .ensures b h) in
+        l .inv .1 .1 .1 b h .on _ _ (given-laws.value-refused g (s .args .place) (s .args .base) b (s .args .t7) v vs (l .left) (l .left - 1) more (l .x) (l .joined) q (c .enum-told3 .given .1))
 
 normalize-enum-told-4 : (t : ℕ) → normalize-lts.Need-enum-told-4 (normalize-claims t) (normalize-at t) normalize.Post normalize-Inv-loop normalize-μ-loop
 normalize-enum-told-4 t c = search needs
@@ -1574,19 +1665,28 @@ normalize-join-requires t c κs = tt
 
 -- src/walk.rt:414:9
 normalize-add-x : (t : ℕ) → normalize-lts.Need-add-x (normalize-claims t) (normalize-at t) normalize.Post normalize-Inv-loop normalize-μ-loop
-normalize-add-x t c = ?
+normalize-add-x t c = omega (arith, c .before .before .before .before .before .before .before .before .before .before .loop .inv .1 .0)
 
 -- src/walk.rt:415:9
 normalize-sub-left : (t : ℕ) → normalize-lts.Need-sub-left (normalize-claims t) (normalize-at t) normalize.Post normalize-Inv-loop normalize-μ-loop
-normalize-sub-left t c = ?
+normalize-sub-left t c = omega (arith, c .before .before .before .before .before .before .before .before .before .loop-test .taken)
 
 -- src/walk.rt:402:5
 normalize-loop-less : (t : ℕ) → normalize-lts.Need-loop-less (normalize-claims t) (normalize-at t) normalize.Post normalize-Inv-loop normalize-μ-loop
-normalize-loop-less t c = ?
+normalize-loop-less t c = omega (arith, c .before .before .before .before .before .before .before .before .before .loop-test .taken)
 
 -- src/walk.rt:402:5
 normalize-loop-again : (t : ℕ) → normalize-lts.Need-loop-again (normalize-claims t) (normalize-at t) normalize.Post normalize-Inv-loop normalize-μ-loop
-normalize-loop-again t c = ?
+normalize-loop-again t c =
+    (c .before .before .before .before .before .before .normalize .kept .1 .1 .1 .1 .1 .1 .1 .0 ∙ c .before .before .before .before .before .before .before .before .before .before .loop .inv .0, (omega (arith, c .before .before .before .before .before .before .before .before .before .before .loop .inv .1 .0, c .before .before .before .before .before .before .before .before .before .loop-test .taken), (c .before .before .before .before .before .before .before .before .before .before .loop .inv .1 .1 .0, λ b h.
+        let s = c .before .before .before .before .before .before .before .before .before .before .before .before .before .before .before .before .before .before .before .before .before .before in
+        let l = c .before .before .before .before .before .before .before .before .before .before .loop in
+        let g = setting (s .args .n) (s .args .unroll) in
+        let v = getD (s .args .given .now) 0 0 in
+        let vs = take (length (s .args .given .now) - 1) (drop 1 (s .args .given .now)) in
+        let more : l .left ≡ suc (l .left - 1) = omega (arith, c .before .before .before .before .before .before .before .before .before .loop-test .taken) in
+        let q = subst (λ (z : State). Says answered (noted.normalized g (s .args .place + 1) vs (s .args .base) b z) (c .before .before .before .before .before .before .normalize .result) (l .marks) (c .before .before .before .before .before .before .normalize .last .1 .1 .1 .1 .1 .1 .1 .0)) (put-span (s .args .t7) v (l .inv .1 .1 .0) refl) (c .before .before .before .before .before .before .normalize .ensures b h) in
+        rw (c .join .ensures) (leads-then (l .inv .1 .1 .1 b h) (given-laws.value-on g (s .args .place) (s .args .base) b (s .args .t7) v vs (l .left) (l .left - 1) more (l .x) (l .joined) q (c .before .before .enum-told4 .given .1))))))
 
 -- src/walk.rt:417:5
 normalize-good-requires : (t : ℕ) → normalize-lts.Need-good-requires (normalize-claims t) (normalize-at t) normalize.Post normalize-Inv-loop normalize-μ-loop
@@ -1594,11 +1694,19 @@ normalize-good-requires t c κs = tt
 
 -- src/walk.rt:362:1
 normalize-same-length-3 : (t : ℕ) → normalize-lts.Need-same-length-3 (normalize-claims t) (normalize-at t) normalize.Post normalize-Inv-loop normalize-μ-loop
-normalize-same-length-3 t c = ?
+normalize-same-length-3 t c = c .before .before .loop .inv .0
 
 -- src/walk.rt:362:1
 normalize-returns-5 : (t : ℕ) → normalize-lts.Need-returns-5 (normalize-claims t) (normalize-at t) normalize.Post normalize-Inv-loop normalize-μ-loop
-normalize-returns-5 t c = ?
+normalize-returns-5 t c =
+    λ b h.
+        let s = c .before .before .before .before .before .before .before .before .before .before .before .before .before .before in
+        let l = c .before .before .loop in
+        let g = setting (s .args .n) (s .args .unroll) in
+        let v = getD (s .args .given .now) 0 0 in
+        let vs = take (length (s .args .given .now) - 1) (drop 1 (s .args .given .now)) in
+        let none : l .left ≡ 0 = omega (arith, c .before .loop-test .left) in
+        rw (c .good2 .ensures) (l .inv .1 .1 .1 b h .on _ _ (given-laws.no-value g (s .args .place) (s .args .base) b (s .args .t7) v vs (l .left) none (l .x) (l .joined) (l .marks)))
 
 -- src/walk.rt:165:9
 pass-event-end-requires : (t : ℕ) → pass-lts.Need-event-end-requires (pass-claims t) (pass-at t) pass.Post
