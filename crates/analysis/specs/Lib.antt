@@ -2,3 +2,4 @@ pub mod Outcomes
 pub mod Noted
 pub mod Plain
 pub mod Loops
+pub mod Entries

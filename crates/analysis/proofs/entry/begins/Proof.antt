@@ -1,0 +1,45 @@
+use borrow.Author.Needs.{needs}
+use Rattle.analysis.proofs.entry.begins.Statement.{statement}
+use Rattle.analysis.proofs.entry.begins.Tie as tie
+use Rattle.analysis.proofs.entry.begins.Reads as reads
+use Rattle.analysis.proofs.entry.begins.Lts as lts
+
+-- src/entry.rt:56:9
+returns : tie.Need-returns
+returns c = ?
+
+-- src/entry.rt:58:8
+shared-slice-read-if2 : tie.Need-shared-slice-read-if2
+shared-slice-read-if2 c = search needs
+
+-- src/entry.rt:59:9
+returns-2 : tie.Need-returns-2
+returns-2 c = ?
+
+-- src/entry.rt:62:9
+returns-3 : tie.Need-returns-3
+returns-3 c = ?
+
+-- src/entry.rt:64:8
+shared-slice-read-if4 : tie.Need-shared-slice-read-if4
+shared-slice-read-if4 c = search needs
+
+-- src/entry.rt:65:9
+returns-4 : tie.Need-returns-4
+returns-4 c = ?
+
+-- src/entry.rt:51:1
+returns-5 : tie.Need-returns-5
+returns-5 c = ?
+
+pub begins-spec : {M : Type 1} → statement M
+begins-spec =
+    tie.close
+    (tie.spec
+    returns
+    shared-slice-read-if2
+    returns-2
+    returns-3
+    shared-slice-read-if4
+    returns-4
+    returns-5)
