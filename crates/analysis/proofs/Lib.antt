@@ -7,3 +7,4 @@ pub mod Given
 pub mod Plains
 pub mod Cuts
 pub mod Walks
+pub mod Entries

@@ -67,7 +67,13 @@ fn begins(words: &[u64]) -> Verdict
     Verdict::Good
 }
 
-pub fn walked_loop(words: &[u64], n: usize, start: Start, unroll: usize, marks: &mut [u8]) -> LoopAnswer
+pub fn walked_loop(
+    words: &[u64],
+    n: usize,
+    start: Start,
+    unroll: usize,
+    marks: &mut [u8],
+) -> LoopAnswer
     requires { ⌜ 8192 ≤ length (now marks) ⌝ }
     ensures { λ r. ⌜ r ≡ looped (answers.looped (now (words .entry)) n (start .cells) unroll) ⌝ }
 {

@@ -43,7 +43,14 @@ fn mark(marks: &mut [u8], at: usize, live: bool)
 }
 
 // The list whose count is the first of the words, which stands at `base` in the program.
-pub fn list(words: &[u64], base: usize, n: usize, unroll: usize, state: State, marks: &mut [u8]) -> Answer
+pub fn list(
+    words: &[u64],
+    base: usize,
+    n: usize,
+    unroll: usize,
+    state: State,
+    marks: &mut [u8],
+) -> Answer
     requires { ⌜ ListIs n (now words) ⌝ }
     requires { ⌜ n ≤ 64 ⌝ }
     requires { ⌜ unroll ≤ 10000 ⌝ }
@@ -90,7 +97,14 @@ pub fn list(words: &[u64], base: usize, n: usize, unroll: usize, state: State, m
 }
 
 // An if, a loop, a fail or a normalize.
-fn statement(words: &[u64], base: usize, n: usize, unroll: usize, state: State, marks: &mut [u8]) -> Answer
+fn statement(
+    words: &[u64],
+    base: usize,
+    n: usize,
+    unroll: usize,
+    state: State,
+    marks: &mut [u8],
+) -> Answer
     requires { ⌜ StatementIs n (now words) ⌝ }
     requires { ⌜ 4 ≤ getD (now words) 0 0 ⌝ }
     requires { ⌜ n ≤ 64 ⌝ }
@@ -113,13 +127,29 @@ fn statement(words: &[u64], base: usize, n: usize, unroll: usize, state: State, 
     }
     if kind == 7 {
         let body = words[1] as usize + 2;
-        return normalize(&words[2..body], base + 2, &words[body..], base + body, n, unroll, state, marks);
+        return normalize(
+            &words[2..body],
+            base + 2,
+            &words[body..],
+            base + body,
+            n,
+            unroll,
+            state,
+            marks,
+        );
     }
     let s = states::empty();
     states::good(s)
 }
 
-fn branch(words: &[u64], base: usize, n: usize, unroll: usize, state: State, marks: &mut [u8]) -> Answer
+fn branch(
+    words: &[u64],
+    base: usize,
+    n: usize,
+    unroll: usize,
+    state: State,
+    marks: &mut [u8],
+) -> Answer
     requires { ⌜ StatementIs n (now words) ⌝ }
     requires { ⌜ getD (now words) 0 0 ≡ 4 ⌝ }
     requires { ⌜ n ≤ 64 ⌝ }
@@ -181,7 +211,14 @@ fn pass(words: &[u64], base: usize, n: usize, unroll: usize, state: State, marks
 }
 
 // The search leaves its loop with the index of the first pass whose new state equals the old.
-fn search(words: &[u64], base: usize, n: usize, unroll: usize, state: State, marks: &mut [u8]) -> Found
+fn search(
+    words: &[u64],
+    base: usize,
+    n: usize,
+    unroll: usize,
+    state: State,
+    marks: &mut [u8],
+) -> Found
     requires { ⌜ LoopIs n (now words) ⌝ }
     requires { ⌜ n ≤ 64 ⌝ }
     requires { ⌜ unroll ≤ 10000 ⌝ }
@@ -278,7 +315,14 @@ fn growing(
 }
 
 // Up to 100 joining passes, then widening passes where they did not settle.
-fn settle(words: &[u64], base: usize, n: usize, unroll: usize, state: State, marks: &mut [u8]) -> Settled
+fn settle(
+    words: &[u64],
+    base: usize,
+    n: usize,
+    unroll: usize,
+    state: State,
+    marks: &mut [u8],
+) -> Settled
     requires { ⌜ LoopIs n (now words) ⌝ }
     requires { ⌜ n ≤ 64 ⌝ }
     requires { ⌜ unroll ≤ 10000 ⌝ }
@@ -321,7 +365,14 @@ fn leave(words: &[u64], base: usize, n: usize, state: State) -> Answer
 }
 
 // Search, unrolled passes, settling: the result is the joined exits with the settled state's exit.
-pub fn looped(words: &[u64], base: usize, n: usize, unroll: usize, state: State, marks: &mut [u8]) -> LoopAnswer
+pub fn looped(
+    words: &[u64],
+    base: usize,
+    n: usize,
+    unroll: usize,
+    state: State,
+    marks: &mut [u8],
+) -> LoopAnswer
     requires { ⌜ LoopIs n (now words) ⌝ }
     requires { ⌜ n ≤ 64 ⌝ }
     requires { ⌜ unroll ≤ 10000 ⌝ }
@@ -355,7 +406,15 @@ pub fn looped(words: &[u64], base: usize, n: usize, unroll: usize, state: State,
     let before = t.exit;
     let last = x.state;
     let exits = states::join(before, last, n);
-    outcomes::loop_answer(exits, turned, settled, outcomes::searched(found), turns, m.joined, m.widened)
+    outcomes::loop_answer(
+        exits,
+        turned,
+        settled,
+        outcomes::searched(found),
+        turns,
+        m.joined,
+        m.widened,
+    )
 }
 
 // The given variables are peeled off one at a time: each value of the first is set as a point, the rest enumerated, the results joined.

@@ -1,3 +1,12 @@
+use Rattle.analysis.proofs.Entries.{admitted-small, analysed-unadmitted, analysed-bad, walked-list, walked-refused, unsound-is, sound-is, program-words}
+use Rattle.analysis.proofs.Entries.{admitted-small, analysed-unadmitted, analysed-bad, walked-list, walked-refused, unsound-is, sound-is}
+use Rattle.analysis.proofs.Says.{answered-good, answered-refused}
+use Rattle.paper.specs.Reader as reader
+use Rattle.paper.specs.Answers as answers
+use Rattle.states.specs.Answers.{answered}
+use lib.ListN.{length}
+use native.Mathlib.Omega.{arith}
+use mathlib.Core.Path.{_≡_, ap, sym, _∙_}
 use borrow.Author.Needs.{needs}
 use Rattle.analysis.proofs.entry.walked.Statement.{statement}
 use Rattle.analysis.proofs.entry.walked.Tie as tie
@@ -18,7 +27,10 @@ enum-told c = search needs
 
 -- src/entry.rt:40:9
 returns : tie.Need-returns
-returns c = ?
+returns c =
+    let s = c .before .before .before .before .before in
+    let a = answered-refused (answers.admitted (s .args .words .now) (s .args .n) (s .args .unroll) (s .args .start .cells)) (c .before .before .admitted .ensures) (c .enum-told .given .1) in
+    walked-refused (s .args .words .now) (s .args .n) (s .args .unroll) (s .args .start .cells) (s .args .marks .now) (s .args .marks .now) (analysed-unadmitted (s .args .words .now) (s .args .n) (s .args .unroll) (s .args .start .cells) a) (c .before .before .admitted .ensures ∙ ap answered a)
 
 enum-told-2 : tie.Need-enum-told-2
 enum-told-2 c = search needs
@@ -37,14 +49,23 @@ refused-requires c κs = search needs
 
 -- src/entry.rt:44:9
 returns-2 : tie.Need-returns-2
-returns-2 c = ?
+returns-2 c =
+    let s = c .before .before .before .before .before .before .before .before .before .before in
+    let a = answered-good (answers.admitted (s .args .words .now) (s .args .n) (s .args .unroll) (s .args .start .cells)) (c .before .before .before .before .before .before .before .admitted .ensures) (c .before .before .before .before .before .enum-told2 .given .1) in
+    let b = unsound-is (reader.program (s .args .words .now) (s .args .n)) (sym (c .before .before .before .before .check .ensures) ∙ c .before .before .checked .given .1) in
+    walked-refused (s .args .words .now) (s .args .n) (s .args .unroll) (s .args .start .cells) (s .args .marks .now) (s .args .marks .now) (analysed-bad (s .args .words .now) (s .args .n) (s .args .unroll) (s .args .start .cells) a b) (c .refused .ensures)
 
 enum-told-3 : tie.Need-enum-told-3
 enum-told-3 c = search needs
 
 -- src/entry.rt:47:5
 list-requires : tie.Need-list-requires
-list-requires c κs = ?
+list-requires c κs =
+    let s = c .before .before .before .before .before .before .before .before .before .before in
+    let a = answered-good (answers.admitted (s .args .words .now) (s .args .n) (s .args .unroll) (s .args .start .cells)) (c .before .before .before .before .before .before .before .admitted .ensures) (c .before .before .before .before .before .enum-told2 .given .1) in
+    let p = sound-is (s .args .words .now) (s .args .n) (sym (c .before .before .before .before .check .ensures) ∙ c .before .before .enum-told3 .given .1) in
+    let m = admitted-small (s .args .words .now) (s .args .n) (s .args .unroll) (s .args .start .cells) a in
+    (program-words p, (m .1, (m .2, omega (arith, m .0, s .pre))))
 
 -- src/entry.rt:33:1
 same-length : tie.Need-same-length
@@ -52,7 +73,11 @@ same-length c = search needs
 
 -- src/entry.rt:33:1
 returns-3 : tie.Need-returns-3
-returns-3 c = ?
+returns-3 c =
+    let s = c .before .before .before .before .before .before .before .before .before .before .before .before .before in
+    let a = answered-good (answers.admitted (s .args .words .now) (s .args .n) (s .args .unroll) (s .args .start .cells)) (c .before .before .before .before .before .before .before .before .before .before .admitted .ensures) (c .before .before .before .before .before .before .before .before .enum-told2 .given .1) in
+    let p = sound-is (s .args .words .now) (s .args .n) (sym (c .before .before .before .before .before .before .before .check .ensures) ∙ c .before .before .before .before .before .enum-told3 .given .1) in
+    walked-list (s .args .words .now) (s .args .n) (s .args .unroll) (s .args .start .cells) a (p .read) (c .before .before .list .ensures (p .tree) (p .is))
 
 pub walked-spec : {M : Type 1} → statement M
 walked-spec =

@@ -1,3 +1,14 @@
+use Rattle.analysis.proofs.Entries.{admitted-small, looped-unadmitted, looped-unbegun, looped-bad, looped-read, begun-good, one-loop, one-answer, part-size, unsound-is, sound-is}
+use Rattle.analysis.proofs.Says.{answered-good, answered-refused}
+use Rattle.analysis.specs.Outcomes.{looped as loop-answer}
+use Rattle.paper.specs.Rules.{Looped}
+use Rattle.paper.specs.Reader as reader
+use Rattle.paper.specs.Answers as answers
+use Rattle.states.specs.Answers.{Answer}
+use Prim.Native.Nat.{_-_, _≤_}
+use lib.ListN.{length, take, drop}
+use native.Mathlib.Omega.{arith}
+use mathlib.Core.Path.{_≡_, ap, sym, _∙_}
 use borrow.Author.Needs.{needs}
 use Rattle.analysis.proofs.entry.walked_loop.Statement.{statement}
 use Rattle.analysis.proofs.entry.walked_loop.Tie as tie
@@ -23,7 +34,10 @@ no-loop-requires c κs = search needs
 
 -- src/entry.rt:77:9
 returns : tie.Need-returns
-returns c = ?
+returns c =
+    let s = c .before .before .before .before .before .before .before in
+    let a = answered-refused (answers.admitted (s .args .words .now) (s .args .n) (s .args .unroll) (s .args .start .cells)) (c .before .before .before .before .admitted .ensures) (c .before .before .verdict .given .1) in
+    c .no-loop .ensures ∙ ap loop-answer (sym (looped-unadmitted (s .args .words .now) (s .args .n) (s .args .unroll) (s .args .start .cells) a))
 
 enum-told : tie.Need-enum-told
 enum-told c = search needs
@@ -42,7 +56,10 @@ no-loop-requires-2 c κs = search needs
 
 -- src/entry.rt:81:9
 returns-2 : tie.Need-returns-2
-returns-2 c = ?
+returns-2 c =
+    let s = c .before .before .before .before .before .before .before .before .before .before in
+    let a = answered-good (answers.admitted (s .args .words .now) (s .args .n) (s .args .unroll) (s .args .start .cells)) (c .before .before .before .before .before .before .before .admitted .ensures) (c .before .before .before .before .before .enum-told .given .1) in
+    c .no-loop2 .ensures ∙ ap loop-answer (sym (looped-unbegun (s .args .words .now) (s .args .n) (s .args .unroll) (s .args .start .cells) a (sym (c .before .before .beginning .given .1) ∙ c .before .before .before .before .begins .ensures)))
 
 enum-told-2 : tie.Need-enum-told-2
 enum-told-2 c = search needs
@@ -61,18 +78,29 @@ no-loop-requires-3 c κs = search needs
 
 -- src/entry.rt:85:9
 returns-3 : tie.Need-returns-3
-returns-3 c = ?
+returns-3 c =
+    let s = c .before .before .before .before .before .before .before .before .before .before .before .before .before in
+    let a = answered-good (answers.admitted (s .args .words .now) (s .args .n) (s .args .unroll) (s .args .start .cells)) (c .before .before .before .before .before .before .before .before .before .before .admitted .ensures) (c .before .before .before .before .before .before .before .before .enum-told .given .1) in
+    let g = sym (c .before .before .before .before .before .enum-told2 .given .1) ∙ c .before .before .before .before .before .before .before .begins .ensures in
+    let b = unsound-is (reader.program (s .args .words .now) (s .args .n)) (sym (c .before .before .before .before .check .ensures) ∙ c .before .before .checked .given .1) in
+    c .no-loop3 .ensures ∙ ap loop-answer (sym (looped-bad (s .args .words .now) (s .args .n) (s .args .unroll) (s .args .start .cells) a g b))
 
 enum-told-3 : tie.Need-enum-told-3
 enum-told-3 c = search needs
 
 -- src/entry.rt:88:18
 sub-looped : tie.Need-sub-looped
-sub-looped c = ?
+sub-looped c =
+    let s = c .before .before .before .before .before .before .before .before .before .before .before .before in
+    let g = begun-good (s .args .words .now) (sym (c .before .before .before .before .enum-told2 .given .1) ∙ c .before .before .before .before .before .before .begins .ensures) in
+    omega (arith, g .long)
 
 -- src/entry.rt:88:18
 part-looped-start : tie.Need-part-looped-start
-part-looped-start c = ?
+part-looped-start c =
+    let s = c .before .before .before .before .before .before .before .before .before .before .before .before in
+    let g = begun-good (s .args .words .now) (sym (c .before .before .before .before .enum-told2 .given .1) ∙ c .before .before .before .before .before .before .begins .ensures) in
+    omega (arith, g .long)
 
 -- src/entry.rt:88:18
 part-looped-end : tie.Need-part-looped-end
@@ -80,7 +108,15 @@ part-looped-end c = search needs
 
 -- src/entry.rt:88:5
 looped-requires : tie.Need-looped-requires
-looped-requires c κs = ?
+looped-requires c κs =
+    let s = c .before .before .before .before .before .before .before .before .before .before .before .before .before .before in
+    let a = answered-good (answers.admitted (s .args .words .now) (s .args .n) (s .args .unroll) (s .args .start .cells)) (c .before .before .before .before .before .before .before .before .before .before .before .admitted .ensures) (c .before .before .before .before .before .before .before .before .before .enum-told .given .1) in
+    let g = begun-good (s .args .words .now) (sym (c .before .before .before .before .before .before .enum-told2 .given .1) ∙ c .before .before .before .before .before .before .before .before .begins .ensures) in
+    let p = sound-is (s .args .words .now) (s .args .n) (sym (c .before .before .before .before .before .check .ensures) ∙ c .before .before .before .enum-told3 .given .1) in
+    let m = admitted-small (s .args .words .now) (s .args .n) (s .args .unroll) (s .args .start .cells) a in
+    let o = one-loop p g in
+    let size : length (take (length (s .args .words .now) - 1) (drop 1 (s .args .words .now))) ≤ length (s .args .words .now) - 1 = part-size (s .args .words .now) in
+    (o .loop, (m .1, (m .2, omega (arith, m .0, g .long, s .pre))))
 
 -- src/entry.rt:70:1
 same-length : tie.Need-same-length
@@ -88,7 +124,14 @@ same-length c = search needs
 
 -- src/entry.rt:70:1
 returns-4 : tie.Need-returns-4
-returns-4 c = ?
+returns-4 c =
+    let s = c .before .before .before .before .before .before .before .before .before .before .before .before .before .before .before .before .before in
+    let a = answered-good (answers.admitted (s .args .words .now) (s .args .n) (s .args .unroll) (s .args .start .cells)) (c .before .before .before .before .before .before .before .before .before .before .before .before .before .before .admitted .ensures) (c .before .before .before .before .before .before .before .before .before .before .before .before .enum-told .given .1) in
+    let b = sym (c .before .before .before .before .before .before .before .before .before .enum-told2 .given .1) ∙ c .before .before .before .before .before .before .before .before .before .before .before .begins .ensures in
+    let p = sound-is (s .args .words .now) (s .args .n) (sym (c .before .before .before .before .before .before .before .before .check .ensures) ∙ c .before .before .before .before .before .before .enum-told3 .given .1) in
+    let o = one-loop p (begun-good (s .args .words .now) b) in
+    let h = c .before .before .looped .ensures (o .unroll) (o .event) (o .body) (o .is) in
+    h .out ∙ ap loop-answer (sym (looped-read (s .args .words .now) (s .args .n) (s .args .unroll) (s .args .start .cells) a b (p .read) ∙ one-answer (s .args .unroll) (c .before .before .before .before .before .before .before .before .before .before .before .before .before .before .admitted .result .state) o))
 
 pub walked-loop-spec : {M : Type 1} → statement M
 walked-loop-spec =

@@ -54,9 +54,10 @@ returns-4 c = (rw (not-false (c .before .before .before .before .before .before 
 -- src/outcomes.rt:174:1
 returns-5 : tie.Need-returns-5
 returns-5 c =
-    let e : ltb 4096 (c .before .before .before .end .given .0 .0 - c .before .before .before .before .before .before .range .given .0 .0 + 1) ≡ false = le-ltb 4096 (c .before .before .before .end .given .0 .0 - c .before .before .before .before .before .before .range .given .0 .0 + 1) (omega (arith, c .before .count .ensures)) in
-    (rw (not-false (c .before .before .before .before .before .before .before .before .before .args .live) (c .before .before .before .before .before .before .before .before .if1 .left), c .before .before .before .before .before .before .range .given .1, c .before .before .before .end .given .1, e, c .before .count .ensures),
-      λ start count q. omega (arith, from-inside q, c .before .count .ensures, c .before .before .before .before .before .known-told .given, c .before .before .known-told2 .given))
+    let e : ltb 4096 (c .before .before .before .end .given .0 .0 - c .before .before .before .before .before .before .range .given .0 .0 + 1) ≡ false = le-ltb 4096 (c .before .before .before .end .given .0 .0 - c .before .before .before .before .before .before .range .given .0 .0 + 1) (omega (arith, c .before .count .ensures)) in (
+      rw (not-false (c .before .before .before .before .before .before .before .before .before .args .live) (c .before .before .before .before .before .before .before .before .if1 .left), c .before .before .before .before .before .before .range .given .1, c .before .before .before .end .given .1, e, c .before .count .ensures),
+      λ start count q. omega (arith, from-inside q, c .before .count .ensures, c .before .before .before .before .before .known-told .given, c .before .before .known-told2 .given),
+    )
 
 pub values-spec : {M : Type 1} → statement M
 values-spec =

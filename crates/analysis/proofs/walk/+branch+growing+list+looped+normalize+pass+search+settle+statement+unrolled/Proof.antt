@@ -286,9 +286,10 @@ branch-sides-requires : (t : ℕ) → branch-lts.Need-sides-requires (branch-cla
 branch-sides-requires t c κs =
     let s = c .before .before .before .before .before in
     let p = s .pre .1 .0 in
-    let k = branch-cut (s .args .words .now) (p .tree) (p .is) (s .pre .1 .1 .0) (c .before .before .event-end .result) (c .before .before .event-end .ensures) (c .before .list-end .result) (c .before .list-end .ensures) in
-    (record { tree = k .event; is = k .event-part; within = branch-bounds (k .same) (p .within) .0 },
-      (s .pre .1 .1 .1 .0, omega (arith, ap length (k .event-part), k .p-is, k .q-is, k .whole, s .pre .1 .1 .1 .1 .1, s .good)))
+    let k = branch-cut (s .args .words .now) (p .tree) (p .is) (s .pre .1 .1 .0) (c .before .before .event-end .result) (c .before .before .event-end .ensures) (c .before .list-end .result) (c .before .list-end .ensures) in (
+      record { tree = k .event; is = k .event-part; within = branch-bounds (k .same) (p .within) .0 },
+      (s .pre .1 .1 .1 .0, omega (arith, ap length (k .event-part), k .p-is, k .q-is, k .whole, s .pre .1 .1 .1 .1 .1, s .good)),
+    )
 
 -- src/walk.rt:134:29
 branch-enum-known-verdict : (t : ℕ) → branch-lts.Need-enum-known-verdict (branch-claims t) (branch-at t) branch.Post
@@ -302,12 +303,12 @@ branch-refused-requires t c κs = tt
 branch-returns : (t : ℕ) → branch-lts.Need-returns (branch-claims t) (branch-at t) branch.Post
 branch-returns t c =
     λ t h.
-        let s = c .before .before .before .before .before .before .before .before .before .before in
-        let g = setting (s .args .n) (s .args .unroll) in
-        let k = branch-cut (s .args .words .now) t h (s .pre .1 .1 .0) (c .before .before .before .before .before .before .before .event-end .result) (c .before .before .before .before .before .before .before .event-end .ensures) (c .before .before .before .before .before .before .list-end .result) (c .before .before .before .before .before .before .list-end .ensures) in
-        let o = c .before .before .before .before .sides .ensures (s .args .unroll) (k .event) (k .event-part) in
-        let j = walks.if-unsplit g (s .args .base) k (s .args .state) (c .before .before .before .before .sides .result) o (s .args .marks .now) (c .before .before .verdict .given .1) in
-        record { out = c .refused .ensures ∙ j .out; marks = j .marks }
+    let s = c .before .before .before .before .before .before .before .before .before .before in
+    let g = setting (s .args .n) (s .args .unroll) in
+    let k = branch-cut (s .args .words .now) t h (s .pre .1 .1 .0) (c .before .before .before .before .before .before .before .event-end .result) (c .before .before .before .before .before .before .before .event-end .ensures) (c .before .before .before .before .before .before .list-end .result) (c .before .before .before .before .before .before .list-end .ensures) in
+    let o = c .before .before .before .before .sides .ensures (s .args .unroll) (k .event) (k .event-part) in
+    let j = walks.if-unsplit g (s .args .base) k (s .args .state) (c .before .before .before .before .sides .result) o (s .args .marks .now) (c .before .before .verdict .given .1) in
+    record { out = c .refused .ensures ∙ j .out; marks = j .marks }
 
 branch-enum-told : (t : ℕ) → branch-lts.Need-enum-told (branch-claims t) (branch-at t) branch.Post
 branch-enum-told t c = search needs
@@ -373,10 +374,13 @@ branch-list-requires : (t : ℕ) → branch-lts.Need-list-requires (branch-claim
 branch-list-requires t c κs =
     let s = c .before .before .before .before .before .before .before .before .before .before .before .before .before .before .before .before in
     let p = s .pre .1 .0 in
-    let k = branch-cut (s .args .words .now) (p .tree) (p .is) (s .pre .1 .1 .0) (c .before .before .before .before .before .before .before .before .before .before .before .before .before .event-end .result) (c .before .before .before .before .before .before .before .before .before .before .before .before .before .event-end .ensures) (c .before .before .before .before .before .before .before .before .before .before .before .before .list-end .result) (c .before .before .before .before .before .before .before .before .before .before .before .before .list-end .ensures) in
-    (omega (arith, ap length (k .then-part), k .some, k .p-is, k .q-is, k .whole, s .pre .0),
-      (record { tree = k .then-list; is = k .then-part; within = branch-bounds (k .same) (p .within) .1 },
-        (s .pre .1 .1 .1 .0, (s .pre .1 .1 .1 .1 .0, omega (arith, ap length (k .then-part), k .p-is, k .q-is, k .whole, s .pre .1 .1 .1 .1 .1, c .before .before .before .before .mark .kept .0)))))
+    let k = branch-cut (s .args .words .now) (p .tree) (p .is) (s .pre .1 .1 .0) (c .before .before .before .before .before .before .before .before .before .before .before .before .before .event-end .result) (c .before .before .before .before .before .before .before .before .before .before .before .before .before .event-end .ensures) (c .before .before .before .before .before .before .before .before .before .before .before .before .list-end .result) (c .before .before .before .before .before .before .before .before .before .before .before .before .list-end .ensures) in (
+      omega (arith, ap length (k .then-part), k .some, k .p-is, k .q-is, k .whole, s .pre .0),
+      (
+        record { tree = k .then-list; is = k .then-part; within = branch-bounds (k .same) (p .within) .1 },
+        (s .pre .1 .1 .1 .0, (s .pre .1 .1 .1 .1 .0, omega (arith, ap length (k .then-part), k .p-is, k .q-is, k .whole, s .pre .1 .1 .1 .1 .1, c .before .before .before .before .mark .kept .0))),
+      ),
+    )
 
 -- src/walk.rt:143:9
 branch-enum-told-2 : (t : ℕ) → branch-lts.Need-enum-told-2 (branch-claims t) (branch-at t) branch.Post
@@ -390,12 +394,12 @@ branch-same-length t c = c .before .before .before .before .list .kept .1 .1 .1 
 branch-returns-2 : (t : ℕ) → branch-lts.Need-returns-2 (branch-claims t) (branch-at t) branch.Post
 branch-returns-2 t c =
     λ t h.
-        let s = c .before .before .before .before .before .before .before .before .before .before .before .before .before .before .before .before .before .before .before .before .before in
-        let g = setting (s .args .n) (s .args .unroll) in
-        let k = branch-cut (s .args .words .now) t h (s .pre .1 .1 .0) (c .before .before .before .before .before .before .before .before .before .before .before .before .before .before .before .before .before .before .event-end .result) (c .before .before .before .before .before .before .before .before .before .before .before .before .before .before .before .before .before .before .event-end .ensures) (c .before .before .before .before .before .before .before .before .before .before .before .before .before .before .before .before .before .list-end .result) (c .before .before .before .before .before .before .before .before .before .before .before .before .before .before .before .before .before .list-end .ensures) in
-        let o = c .before .before .before .before .before .before .before .before .before .before .before .before .before .before .before .sides .ensures (s .args .unroll) (k .event) (k .event-part) in
-        let w = c .before .before .before .before .list .ensures (k .then-list) (k .then-part) in
-        walks.if-then-refused g (s .args .base) k (s .args .state) (c .before .before .before .before .before .before .before .before .before .before .before .before .before .before .before .sides .result) o (s .args .marks .now) (c .before .before .before .before .before .before .before .before .before .before .before .before .before .enum-told .given .1) (c .before .before .before .before .before .before .before .before .before .mark .ensures) w (c .enum-told2 .given .1)
+    let s = c .before .before .before .before .before .before .before .before .before .before .before .before .before .before .before .before .before .before .before .before .before in
+    let g = setting (s .args .n) (s .args .unroll) in
+    let k = branch-cut (s .args .words .now) t h (s .pre .1 .1 .0) (c .before .before .before .before .before .before .before .before .before .before .before .before .before .before .before .before .before .before .event-end .result) (c .before .before .before .before .before .before .before .before .before .before .before .before .before .before .before .before .before .before .event-end .ensures) (c .before .before .before .before .before .before .before .before .before .before .before .before .before .before .before .before .before .list-end .result) (c .before .before .before .before .before .before .before .before .before .before .before .before .before .before .before .before .before .list-end .ensures) in
+    let o = c .before .before .before .before .before .before .before .before .before .before .before .before .before .before .before .sides .ensures (s .args .unroll) (k .event) (k .event-part) in
+    let w = c .before .before .before .before .list .ensures (k .then-list) (k .then-part) in
+    walks.if-then-refused g (s .args .base) k (s .args .state) (c .before .before .before .before .before .before .before .before .before .before .before .before .before .before .before .sides .result) o (s .args .marks .now) (c .before .before .before .before .before .before .before .before .before .before .before .before .before .enum-told .given .1) (c .before .before .before .before .before .before .before .before .before .mark .ensures) w (c .enum-told2 .given .1)
 
 branch-enum-told-3 : (t : ℕ) → branch-lts.Need-enum-told-3 (branch-claims t) (branch-at t) branch.Post
 branch-enum-told-3 t c = search needs
@@ -461,10 +465,13 @@ branch-list-requires-2 : (t : ℕ) → branch-lts.Need-list-requires-2 (branch-c
 branch-list-requires-2 t c κs =
     let s = c .before .before .before .before .before .before .before .before .before .before .before .before .before .before .before .before .before .before .before .before .before .before .before .before .before .before .before in
     let p = s .pre .1 .0 in
-    let k = branch-cut (s .args .words .now) (p .tree) (p .is) (s .pre .1 .1 .0) (c .before .before .before .before .before .before .before .before .before .before .before .before .before .before .before .before .before .before .before .before .before .before .before .before .event-end .result) (c .before .before .before .before .before .before .before .before .before .before .before .before .before .before .before .before .before .before .before .before .before .before .before .before .event-end .ensures) (c .before .before .before .before .before .before .before .before .before .before .before .before .before .before .before .before .before .before .before .before .before .before .before .list-end .result) (c .before .before .before .before .before .before .before .before .before .before .before .before .before .before .before .before .before .before .before .before .before .before .before .list-end .ensures) in
-    (omega (arith, ap length (k .else-part), k .some, k .p-is, k .q-is, k .whole, s .pre .0),
-      (record { tree = k .else-list; is = k .else-part; within = branch-bounds (k .same) (p .within) .2 },
-        (s .pre .1 .1 .1 .0, (s .pre .1 .1 .1 .1 .0, omega (arith, ap length (k .else-part), k .p-is, k .q-is, k .whole, s .pre .1 .1 .1 .1 .1, c .before .before .before .before .before .before .before .before .before .before .before .before .before .before .before .mark .kept .0, c .before .before .before .before .before .before .before .before .before .before .list .kept .1 .1 .1 .1 .1 .0, c .before .before .before .before .mark2 .kept .0)))))
+    let k = branch-cut (s .args .words .now) (p .tree) (p .is) (s .pre .1 .1 .0) (c .before .before .before .before .before .before .before .before .before .before .before .before .before .before .before .before .before .before .before .before .before .before .before .before .event-end .result) (c .before .before .before .before .before .before .before .before .before .before .before .before .before .before .before .before .before .before .before .before .before .before .before .before .event-end .ensures) (c .before .before .before .before .before .before .before .before .before .before .before .before .before .before .before .before .before .before .before .before .before .before .before .list-end .result) (c .before .before .before .before .before .before .before .before .before .before .before .before .before .before .before .before .before .before .before .before .before .before .before .list-end .ensures) in (
+      omega (arith, ap length (k .else-part), k .some, k .p-is, k .q-is, k .whole, s .pre .0),
+      (
+        record { tree = k .else-list; is = k .else-part; within = branch-bounds (k .same) (p .within) .2 },
+        (s .pre .1 .1 .1 .0, (s .pre .1 .1 .1 .1 .0, omega (arith, ap length (k .else-part), k .p-is, k .q-is, k .whole, s .pre .1 .1 .1 .1 .1, c .before .before .before .before .before .before .before .before .before .before .before .before .before .before .before .mark .kept .0, c .before .before .before .before .before .before .before .before .before .before .list .kept .1 .1 .1 .1 .1 .0, c .before .before .before .before .mark2 .kept .0))),
+      ),
+    )
 
 -- src/walk.rt:149:9
 branch-enum-told-4 : (t : ℕ) → branch-lts.Need-enum-told-4 (branch-claims t) (branch-at t) branch.Post
@@ -478,13 +485,13 @@ branch-same-length-2 t c = c .before .before .before .before .list2 .kept .1 .1 
 branch-returns-3 : (t : ℕ) → branch-lts.Need-returns-3 (branch-claims t) (branch-at t) branch.Post
 branch-returns-3 t c =
     λ t h.
-        let s = c .before .before .before .before .before .before .before .before .before .before .before .before .before .before .before .before .before .before .before .before .before .before .before .before .before .before .before .before .before .before .before .before in
-        let g = setting (s .args .n) (s .args .unroll) in
-        let k = branch-cut (s .args .words .now) t h (s .pre .1 .1 .0) (c .before .before .before .before .before .before .before .before .before .before .before .before .before .before .before .before .before .before .before .before .before .before .before .before .before .before .before .before .before .event-end .result) (c .before .before .before .before .before .before .before .before .before .before .before .before .before .before .before .before .before .before .before .before .before .before .before .before .before .before .before .before .before .event-end .ensures) (c .before .before .before .before .before .before .before .before .before .before .before .before .before .before .before .before .before .before .before .before .before .before .before .before .before .before .before .before .list-end .result) (c .before .before .before .before .before .before .before .before .before .before .before .before .before .before .before .before .before .before .before .before .before .before .before .before .before .before .before .before .list-end .ensures) in
-        let o = c .before .before .before .before .before .before .before .before .before .before .before .before .before .before .before .before .before .before .before .before .before .before .before .before .before .before .sides .ensures (s .args .unroll) (k .event) (k .event-part) in
-        let w = c .before .before .before .before .before .before .before .before .before .before .before .before .before .before .before .list .ensures (k .then-list) (k .then-part) in
-        let v = c .before .before .before .before .list2 .ensures (k .else-list) (k .else-part) in
-        walks.if-else-refused g (s .args .base) k (s .args .state) (c .before .before .before .before .before .before .before .before .before .before .before .before .before .before .before .before .before .before .before .before .before .before .before .before .before .before .sides .result) o (s .args .marks .now) (c .before .before .before .before .before .before .before .before .before .before .before .before .before .before .before .before .before .before .before .before .before .before .before .before .enum-told .given .1) (c .before .before .before .before .before .before .before .before .before .before .before .before .before .before .before .before .before .before .before .before .mark .ensures) w (c .before .before .before .before .before .before .before .before .before .before .before .enum-told3 .given .1) (c .before .before .before .before .before .before .before .before .before .mark2 .ensures) v (c .enum-told4 .given .1)
+    let s = c .before .before .before .before .before .before .before .before .before .before .before .before .before .before .before .before .before .before .before .before .before .before .before .before .before .before .before .before .before .before .before .before in
+    let g = setting (s .args .n) (s .args .unroll) in
+    let k = branch-cut (s .args .words .now) t h (s .pre .1 .1 .0) (c .before .before .before .before .before .before .before .before .before .before .before .before .before .before .before .before .before .before .before .before .before .before .before .before .before .before .before .before .before .event-end .result) (c .before .before .before .before .before .before .before .before .before .before .before .before .before .before .before .before .before .before .before .before .before .before .before .before .before .before .before .before .before .event-end .ensures) (c .before .before .before .before .before .before .before .before .before .before .before .before .before .before .before .before .before .before .before .before .before .before .before .before .before .before .before .before .list-end .result) (c .before .before .before .before .before .before .before .before .before .before .before .before .before .before .before .before .before .before .before .before .before .before .before .before .before .before .before .before .list-end .ensures) in
+    let o = c .before .before .before .before .before .before .before .before .before .before .before .before .before .before .before .before .before .before .before .before .before .before .before .before .before .before .sides .ensures (s .args .unroll) (k .event) (k .event-part) in
+    let w = c .before .before .before .before .before .before .before .before .before .before .before .before .before .before .before .list .ensures (k .then-list) (k .then-part) in
+    let v = c .before .before .before .before .list2 .ensures (k .else-list) (k .else-part) in
+    walks.if-else-refused g (s .args .base) k (s .args .state) (c .before .before .before .before .before .before .before .before .before .before .before .before .before .before .before .before .before .before .before .before .before .before .before .before .before .before .sides .result) o (s .args .marks .now) (c .before .before .before .before .before .before .before .before .before .before .before .before .before .before .before .before .before .before .before .before .before .before .before .before .enum-told .given .1) (c .before .before .before .before .before .before .before .before .before .before .before .before .before .before .before .before .before .before .before .before .mark .ensures) w (c .before .before .before .before .before .before .before .before .before .before .before .enum-told3 .given .1) (c .before .before .before .before .before .before .before .before .before .mark2 .ensures) v (c .enum-told4 .given .1)
 
 branch-enum-told-5 : (t : ℕ) → branch-lts.Need-enum-told-5 (branch-claims t) (branch-at t) branch.Post
 branch-enum-told-5 t c = search needs
@@ -505,14 +512,14 @@ branch-same-length-3 t c = c .before .before .before .before .before .before .be
 branch-returns-4 : (t : ℕ) → branch-lts.Need-returns-4 (branch-claims t) (branch-at t) branch.Post
 branch-returns-4 t c =
     λ t h.
-        let s = c .before .before .before .before .before .before .before .before .before .before .before .before .before .before .before .before .before .before .before .before .before .before .before .before .before .before .before .before .before .before .before .before .before .before .before .before in
-        let g = setting (s .args .n) (s .args .unroll) in
-        let k = branch-cut (s .args .words .now) t h (s .pre .1 .1 .0) (c .before .before .before .before .before .before .before .before .before .before .before .before .before .before .before .before .before .before .before .before .before .before .before .before .before .before .before .before .before .before .before .before .before .event-end .result) (c .before .before .before .before .before .before .before .before .before .before .before .before .before .before .before .before .before .before .before .before .before .before .before .before .before .before .before .before .before .before .before .before .before .event-end .ensures) (c .before .before .before .before .before .before .before .before .before .before .before .before .before .before .before .before .before .before .before .before .before .before .before .before .before .before .before .before .before .before .before .before .list-end .result) (c .before .before .before .before .before .before .before .before .before .before .before .before .before .before .before .before .before .before .before .before .before .before .before .before .before .before .before .before .before .before .before .before .list-end .ensures) in
-        let o = c .before .before .before .before .before .before .before .before .before .before .before .before .before .before .before .before .before .before .before .before .before .before .before .before .before .before .before .before .before .before .sides .ensures (s .args .unroll) (k .event) (k .event-part) in
-        let w = c .before .before .before .before .before .before .before .before .before .before .before .before .before .before .before .before .before .before .before .list .ensures (k .then-list) (k .then-part) in
-        let v = c .before .before .before .before .before .before .before .before .list2 .ensures (k .else-list) (k .else-part) in
-        let j = walks.if-joined g (s .args .base) k (s .args .state) (c .before .before .before .before .before .before .before .before .before .before .before .before .before .before .before .before .before .before .before .before .before .before .before .before .before .before .before .before .before .before .sides .result) o (s .args .marks .now) (c .before .before .before .before .before .before .before .before .before .before .before .before .before .before .before .before .before .before .before .before .before .before .before .before .before .before .before .before .enum-told .given .1) (c .before .before .before .before .before .before .before .before .before .before .before .before .before .before .before .before .before .before .before .before .before .before .before .before .mark .ensures) w (c .before .before .before .before .before .before .before .before .before .before .before .before .before .before .before .enum-told3 .given .1) (c .before .before .before .before .before .before .before .before .before .before .before .before .before .mark2 .ensures) v (c .before .before .before .before .enum-told5 .given .1) in
-        record { out = c .good2 .ensures ∙ ap (λ (z : State). answered (Gives z)) (c .before .join .ensures) ∙ j .out; marks = j .marks }
+    let s = c .before .before .before .before .before .before .before .before .before .before .before .before .before .before .before .before .before .before .before .before .before .before .before .before .before .before .before .before .before .before .before .before .before .before .before .before in
+    let g = setting (s .args .n) (s .args .unroll) in
+    let k = branch-cut (s .args .words .now) t h (s .pre .1 .1 .0) (c .before .before .before .before .before .before .before .before .before .before .before .before .before .before .before .before .before .before .before .before .before .before .before .before .before .before .before .before .before .before .before .before .before .event-end .result) (c .before .before .before .before .before .before .before .before .before .before .before .before .before .before .before .before .before .before .before .before .before .before .before .before .before .before .before .before .before .before .before .before .before .event-end .ensures) (c .before .before .before .before .before .before .before .before .before .before .before .before .before .before .before .before .before .before .before .before .before .before .before .before .before .before .before .before .before .before .before .before .list-end .result) (c .before .before .before .before .before .before .before .before .before .before .before .before .before .before .before .before .before .before .before .before .before .before .before .before .before .before .before .before .before .before .before .before .list-end .ensures) in
+    let o = c .before .before .before .before .before .before .before .before .before .before .before .before .before .before .before .before .before .before .before .before .before .before .before .before .before .before .before .before .before .before .sides .ensures (s .args .unroll) (k .event) (k .event-part) in
+    let w = c .before .before .before .before .before .before .before .before .before .before .before .before .before .before .before .before .before .before .before .list .ensures (k .then-list) (k .then-part) in
+    let v = c .before .before .before .before .before .before .before .before .list2 .ensures (k .else-list) (k .else-part) in
+    let j = walks.if-joined g (s .args .base) k (s .args .state) (c .before .before .before .before .before .before .before .before .before .before .before .before .before .before .before .before .before .before .before .before .before .before .before .before .before .before .before .before .before .before .sides .result) o (s .args .marks .now) (c .before .before .before .before .before .before .before .before .before .before .before .before .before .before .before .before .before .before .before .before .before .before .before .before .before .before .before .before .enum-told .given .1) (c .before .before .before .before .before .before .before .before .before .before .before .before .before .before .before .before .before .before .before .before .before .before .before .before .mark .ensures) w (c .before .before .before .before .before .before .before .before .before .before .before .before .before .before .before .enum-told3 .given .1) (c .before .before .before .before .before .before .before .before .before .before .before .before .before .mark2 .ensures) v (c .before .before .before .before .enum-told5 .given .1) in
+    record { out = c .good2 .ensures ∙ ap (λ (z : State). answered (Gives z)) (c .before .join .ensures) ∙ j .out; marks = j .marks }
 
 abbrev growing-Inv-loop : growing-lts.InvT-loop
 growing-Inv-loop words base n unroll widening most marks₀ s₀ i₀ marks s i =
@@ -548,13 +555,13 @@ growing-same-length t c = c .before .before .before .before .before .before .pas
 growing-returns : (t : ℕ) → growing-lts.Need-returns (growing-claims t) (growing-at t) growing.Post growing-Inv-loop growing-μ-loop
 growing-returns t c =
     λ u e b h.
-        let s = c .before .before .before .before .before .before .before .before .before .before .before .before in
-        let l = c .before .before .before .before .before .before .before .before .before .loop in
-        let g = setting (s .args .n) (s .args .unroll) in
-        let q = c .before .before .before .before .before .before .pass .ensures u e b h in
-        let by = stages.grow (s .args .n) (s .args .widening) in
-        let more : s .args .most - l .i ≡ suc (s .args .most - (l .i + 1)) = omega (arith, c .before .before .before .before .before .before .before .before .loop-test .taken) in
-        rw (c .unsettled .ensures) (l .inv .1 .1 u e b h .on _ _ (turns-laws.growing-refused g (s .args .base) e b (s .args .most - l .i) (s .args .most - (l .i + 1)) more (l .s) q by (l .i) (c .before .before .verdict .given .1)))
+    let s = c .before .before .before .before .before .before .before .before .before .before .before .before in
+    let l = c .before .before .before .before .before .before .before .before .before .loop in
+    let g = setting (s .args .n) (s .args .unroll) in
+    let q = c .before .before .before .before .before .before .pass .ensures u e b h in
+    let by = stages.grow (s .args .n) (s .args .widening) in
+    let more : s .args .most - l .i ≡ suc (s .args .most - (l .i + 1)) = omega (arith, c .before .before .before .before .before .before .before .before .loop-test .taken) in
+    rw (c .unsettled .ensures) (l .inv .1 .1 u e b h .on _ _ (turns-laws.growing-refused g (s .args .base) e b (s .args .most - l .i) (s .args .most - (l .i + 1)) more (l .s) q by (l .i) (c .before .before .verdict .given .1)))
 
 growing-enum-told : (t : ℕ) → growing-lts.Need-enum-told (growing-claims t) (growing-at t) growing.Post growing-Inv-loop growing-μ-loop
 growing-enum-told t c = search needs
@@ -579,13 +586,13 @@ growing-same-length-2 t c = c .before .before .before .before .before .before .b
 growing-returns-2 : (t : ℕ) → growing-lts.Need-returns-2 (growing-claims t) (growing-at t) growing.Post growing-Inv-loop growing-μ-loop
 growing-returns-2 t c =
     λ u e b h.
-        let s = c .before .before .before .before .before .before .before .before .before .before .before .before .before .before in
-        let l = c .before .before .before .before .before .before .before .before .before .before .before .loop in
-        let g = setting (s .args .n) (s .args .unroll) in
-        let q = c .before .before .before .before .before .before .before .before .pass .ensures u e b h in
-        let by = stages.grow (s .args .n) (s .args .widening) in
-        let more : s .args .most - l .i ≡ suc (s .args .most - (l .i + 1)) = omega (arith, c .before .before .before .before .before .before .before .before .before .before .loop-test .taken) in
-        rw (c .grown .ensures) (l .inv .1 .1 u e b h .on _ _ (turns-laws.growing-settled g (s .args .base) e b (s .args .most - l .i) (s .args .most - (l .i + 1)) more (l .s) q by (l .i) (c .before .before .before .before .enum-told .given .1) (sym (c .before .before .within .ensures) ∙ c .before .if1 .taken)))
+    let s = c .before .before .before .before .before .before .before .before .before .before .before .before .before .before in
+    let l = c .before .before .before .before .before .before .before .before .before .before .before .loop in
+    let g = setting (s .args .n) (s .args .unroll) in
+    let q = c .before .before .before .before .before .before .before .before .pass .ensures u e b h in
+    let by = stages.grow (s .args .n) (s .args .widening) in
+    let more : s .args .most - l .i ≡ suc (s .args .most - (l .i + 1)) = omega (arith, c .before .before .before .before .before .before .before .before .before .before .loop-test .taken) in
+    rw (c .grown .ensures) (l .inv .1 .1 u e b h .on _ _ (turns-laws.growing-settled g (s .args .base) e b (s .args .most - l .i) (s .args .most - (l .i + 1)) more (l .s) q by (l .i) (c .before .before .before .before .enum-told .given .1) (sym (c .before .before .within .ensures) ∙ c .before .if1 .taken)))
 
 -- src/walk.rt:275:9
 growing-grow-requires : (t : ℕ) → growing-lts.Need-grow-requires (growing-claims t) (growing-at t) growing.Post growing-Inv-loop growing-μ-loop
@@ -597,15 +604,20 @@ growing-loop-less t c = omega (arith, c .before .before .before .before .before 
 
 -- src/walk.rt:264:5
 growing-loop-again : (t : ℕ) → growing-lts.Need-loop-again (growing-claims t) (growing-at t) growing.Post growing-Inv-loop growing-μ-loop
-growing-loop-again t c =
-    (omega (arith, c .before .before .before .before .before .before .before .before .before .before .loop-test .taken), (c .before .before .before .before .before .before .before .before .pass .kept .1 .1 .1 .1 .1 .0 ∙ c .before .before .before .before .before .before .before .before .before .before .before .loop .inv .1 .0, λ u e b h.
+growing-loop-again t c = (
+  omega (arith, c .before .before .before .before .before .before .before .before .before .before .loop-test .taken),
+  (
+    c .before .before .before .before .before .before .before .before .pass .kept .1 .1 .1 .1 .1 .0 ∙ c .before .before .before .before .before .before .before .before .before .before .before .loop .inv .1 .0,
+    λ u e b h.
         let s = c .before .before .before .before .before .before .before .before .before .before .before .before .before .before in
         let l = c .before .before .before .before .before .before .before .before .before .before .before .loop in
         let g = setting (s .args .n) (s .args .unroll) in
         let q = c .before .before .before .before .before .before .before .before .pass .ensures u e b h in
         let by = stages.grow (s .args .n) (s .args .widening) in
         let more : s .args .most - l .i ≡ suc (s .args .most - (l .i + 1)) = omega (arith, c .before .before .before .before .before .before .before .before .before .before .loop-test .taken) in
-        rw (c .grow .ensures) (leads-then (l .inv .1 .1 u e b h) (turns-laws.growing-on g (s .args .base) e b (s .args .most - l .i) (s .args .most - (l .i + 1)) more (l .s) q by (l .i) (c .before .before .before .before .enum-told .given .1) (sym (c .before .before .within .ensures) ∙ c .before .if1 .left)))))
+        rw (c .grow .ensures) (leads-then (l .inv .1 .1 u e b h) (turns-laws.growing-on g (s .args .base) e b (s .args .most - l .i) (s .args .most - (l .i + 1)) more (l .s) q by (l .i) (c .before .before .before .before .enum-told .given .1) (sym (c .before .before .within .ensures) ∙ c .before .if1 .left))),
+  ),
+)
 
 -- src/walk.rt:277:5
 growing-grown-requires-2 : (t : ℕ) → growing-lts.Need-grown-requires-2 (growing-claims t) (growing-at t) growing.Post growing-Inv-loop growing-μ-loop
@@ -619,12 +631,12 @@ growing-same-length-3 t c = c .before .before .loop .inv .1 .0
 growing-returns-3 : (t : ℕ) → growing-lts.Need-returns-3 (growing-claims t) (growing-at t) growing.Post growing-Inv-loop growing-μ-loop
 growing-returns-3 t c =
     λ u e b h.
-        let s = c .before .before .before .before .before in
-        let l = c .before .before .loop in
-        let g = setting (s .args .n) (s .args .unroll) in
-        let by = stages.grow (s .args .n) (s .args .widening) in
-        let none : s .args .most - l .i ≡ 0 = omega (arith, c .before .loop-test .left) in
-        rw (c .grown2 .ensures) (l .inv .1 .1 u e b h .on _ _ (turns-laws.growing-none g (s .args .base) e b (s .args .most - l .i) none by (l .i) (l .s) (l .marks)))
+    let s = c .before .before .before .before .before in
+    let l = c .before .before .loop in
+    let g = setting (s .args .n) (s .args .unroll) in
+    let by = stages.grow (s .args .n) (s .args .widening) in
+    let none : s .args .most - l .i ≡ 0 = omega (arith, c .before .loop-test .left) in
+    rw (c .grown2 .ensures) (l .inv .1 .1 u e b h .on _ _ (turns-laws.growing-none g (s .args .base) e b (s .args .most - l .i) none by (l .i) (l .s) (l .marks)))
 
 abbrev list-Inv-loop : list-lts.InvT-loop
 list-Inv-loop words base n unroll marks₀ s₀ left₀ at₀ marks s left at = (0 < at) × ((length marks ≡ length marks₀) × ((length (s .cells) ≡ 64) × ((t : Statements) → words ≡ code.program t → Going (setting n unroll) base words s₀ marks₀ t left at s marks)))
@@ -952,26 +964,26 @@ list-same-length t c = c .before .before .before .before .before .before .before
 list-returns : (t : ℕ) → list-lts.Need-returns (list-claims t) (list-at t) list.Post list-Inv-loop list-μ-loop
 list-returns t c =
     λ t h.
-        let s = c .before .before .before .before .before .before .before .before .before .before .before .before .before .before .before .before .before .before .before in
-        let l = c .before .before .before .before .before .before .before .before .before .before .before .before .before .before .before .loop in
-        let G = l .inv .1 .1 .1 t h in
-        let some = c .before .before .before .before .before .before .before .before .before .before .before .before .before .before .loop-test .taken in
-        let x = walks.going-next G some in
-        let e = c .before .before .before .before .before .before .before .before .before .before .before .before .before .statement-end .ensures (x .head) (x .head-is) in
-        let f = walks.going-part G some (c .before .before .before .before .before .before .before .before .before .before .before .before .before .statement-end .result) e in
-        let k = walks.kind-below (walks.going-kind G some) (c .before .before .before .before .before .before .before .before .before .before .before .if1 .taken) in
-        let p = s .pre .1 .0 in
-        let own = walks.going-own G some k in
-        let src = c .before .before .before .before .before .before .before .source .ensures (x .head) f in
-        let w = l .inv .1 .1 .1 (p .tree) (p .is) in
-        let y = walks.going-next w some in
-        let ky = walks.kind-below (walks.going-kind w some) (c .before .before .before .before .before .before .before .before .before .before .before .if1 .taken) in
-        let wy = walks.going-statement w some (p .within) in
-        let ey = c .before .before .before .before .before .before .before .before .before .before .before .before .before .statement-end .ensures (y .head) (y .head-is) in
-        let own-cell = there (l .s .cells) (getD (s .args .words .now) (l .at + 1) 0) _ (omega (arith, l .inv .1 .1 .0, walks.going-own w some ky, target-below (y .head) wy ky, s .pre .1 .1 .0)) in
-        let read-cell = there (l .s .cells) (c .before .before .before .before .before .before .before .source .result) _ (omega (arith, l .inv .1 .1 .0, c .before .before .before .before .before .before .before .source .ensures (y .head) (walks.going-part w some (c .before .before .before .before .before .before .before .before .before .before .before .before .before .statement-end .result) ey), source-below (y .head) wy ky, s .pre .1 .1 .0)) in
-        let j = walks.going-over G some k _ _ (ap (λ (z : Cell). z .range) own-cell ∙ ap (λ (v : ℕ). states.get (l .s) v) own) (ap (λ (z : Cell). z .range) read-cell ∙ ap (λ (v : ℕ). states.get (l .s) v) src) (c .before .before .before .before .before .before .before .before .before .before .if2 .taken) (sym (c .before .enum-told .given .1) ∙ c .before .before .before .change .ensures (x .head) f) in
-        record { out = c .refused .ensures ∙ j .out; marks = j .marks }
+    let s = c .before .before .before .before .before .before .before .before .before .before .before .before .before .before .before .before .before .before .before in
+    let l = c .before .before .before .before .before .before .before .before .before .before .before .before .before .before .before .loop in
+    let G = l .inv .1 .1 .1 t h in
+    let some = c .before .before .before .before .before .before .before .before .before .before .before .before .before .before .loop-test .taken in
+    let x = walks.going-next G some in
+    let e = c .before .before .before .before .before .before .before .before .before .before .before .before .before .statement-end .ensures (x .head) (x .head-is) in
+    let f = walks.going-part G some (c .before .before .before .before .before .before .before .before .before .before .before .before .before .statement-end .result) e in
+    let k = walks.kind-below (walks.going-kind G some) (c .before .before .before .before .before .before .before .before .before .before .before .if1 .taken) in
+    let p = s .pre .1 .0 in
+    let own = walks.going-own G some k in
+    let src = c .before .before .before .before .before .before .before .source .ensures (x .head) f in
+    let w = l .inv .1 .1 .1 (p .tree) (p .is) in
+    let y = walks.going-next w some in
+    let ky = walks.kind-below (walks.going-kind w some) (c .before .before .before .before .before .before .before .before .before .before .before .if1 .taken) in
+    let wy = walks.going-statement w some (p .within) in
+    let ey = c .before .before .before .before .before .before .before .before .before .before .before .before .before .statement-end .ensures (y .head) (y .head-is) in
+    let own-cell = there (l .s .cells) (getD (s .args .words .now) (l .at + 1) 0) _ (omega (arith, l .inv .1 .1 .0, walks.going-own w some ky, target-below (y .head) wy ky, s .pre .1 .1 .0)) in
+    let read-cell = there (l .s .cells) (c .before .before .before .before .before .before .before .source .result) _ (omega (arith, l .inv .1 .1 .0, c .before .before .before .before .before .before .before .source .ensures (y .head) (walks.going-part w some (c .before .before .before .before .before .before .before .before .before .before .before .before .before .statement-end .result) ey), source-below (y .head) wy ky, s .pre .1 .1 .0)) in
+    let j = walks.going-over G some k _ _ (ap (λ (z : Cell). z .range) own-cell ∙ ap (λ (v : ℕ). states.get (l .s) v) own) (ap (λ (z : Cell). z .range) read-cell ∙ ap (λ (v : ℕ). states.get (l .s) v) src) (c .before .before .before .before .before .before .before .before .before .before .if2 .taken) (sym (c .before .enum-told .given .1) ∙ c .before .before .before .change .ensures (x .head) f) in
+    record { out = c .refused .ensures ∙ j .out; marks = j .marks }
 
 -- src/walk.rt:73:29
 list-enum-told-2 : (t : ℕ) → list-lts.Need-enum-told-2 (list-claims t) (list-at t) list.Post list-Inv-loop list-μ-loop
@@ -990,27 +1002,35 @@ list-loop-again : (t : ℕ) → list-lts.Need-loop-again (list-claims t) (list-a
 list-loop-again t c =
     let p = c .before .before .before .before .before .before .before .before .before .before .before .before .before .before .before .before .before .before .before .before .before .before .pre .1 .0 in
     let w0 = c .before .before .before .before .before .before .before .before .before .before .before .before .before .before .before .before .before .before .loop .inv .1 .1 .1 (p .tree) (p .is) in
-    let x0 = walks.going-next w0 (c .before .before .before .before .before .before .before .before .before .before .before .before .before .before .before .before .before .loop-test .taken) in
-    (omega (arith, c .before .before .before .before .before .before .before .before .before .before .before .before .before .before .before .before .statement-end .ensures (x0 .head) (x0 .head-is), statement-some (x0 .head)), (c .before .before .before .before .before .before .before .before .before .before .before .before .before .before .before .before .before .before .loop .inv .1 .0, (rw (c .empty .ensures), λ t h.
-        let s = c .before .before .before .before .before .before .before .before .before .before .before .before .before .before .before .before .before .before .before .before .before .before in
-        let l = c .before .before .before .before .before .before .before .before .before .before .before .before .before .before .before .before .before .before .loop in
-        let G = l .inv .1 .1 .1 t h in
-        let some = c .before .before .before .before .before .before .before .before .before .before .before .before .before .before .before .before .before .loop-test .taken in
-        let x = walks.going-next G some in
-        let e = c .before .before .before .before .before .before .before .before .before .before .before .before .before .before .before .before .statement-end .ensures (x .head) (x .head-is) in
-        let f = walks.going-part G some (c .before .before .before .before .before .before .before .before .before .before .before .before .before .before .before .before .statement-end .result) e in
-        let k = walks.kind-below (walks.going-kind G some) (c .before .before .before .before .before .before .before .before .before .before .before .before .before .before .if1 .taken) in
-        let p = s .pre .1 .0 in
-        let own = walks.going-own G some k in
-        let src = c .before .before .before .before .before .before .before .before .before .before .source .ensures (x .head) f in
-        let w = l .inv .1 .1 .1 (p .tree) (p .is) in
-        let y = walks.going-next w some in
-        let ky = walks.kind-below (walks.going-kind w some) (c .before .before .before .before .before .before .before .before .before .before .before .before .before .before .if1 .taken) in
-        let wy = walks.going-statement w some (p .within) in
-        let ey = c .before .before .before .before .before .before .before .before .before .before .before .before .before .before .before .before .statement-end .ensures (y .head) (y .head-is) in
-        let own-cell = there (l .s .cells) (getD (s .args .words .now) (l .at + 1) 0) _ (omega (arith, l .inv .1 .1 .0, walks.going-own w some ky, target-below (y .head) wy ky, s .pre .1 .1 .0)) in
-        let read-cell = there (l .s .cells) (c .before .before .before .before .before .before .before .before .before .before .source .result) _ (omega (arith, l .inv .1 .1 .0, c .before .before .before .before .before .before .before .before .before .before .source .ensures (y .head) (walks.going-part w some (c .before .before .before .before .before .before .before .before .before .before .before .before .before .before .before .before .statement-end .result) ey), source-below (y .head) wy ky, s .pre .1 .1 .0)) in
-        walks.going-changed G some k _ _ (ap (λ (z : Cell). z .range) own-cell ∙ ap (λ (v : ℕ). states.get (l .s) v) own) (ap (λ (z : Cell). z .range) read-cell ∙ ap (λ (v : ℕ). states.get (l .s) v) src) (c .before .before .before .before .before .before .before .before .before .before .before .before .before .before .before .before .statement-end .result) e (sym (c .before .before .before .before .range .given .1) ∙ c .before .before .before .before .before .before .change .ensures (x .head) f) (c .empty .result) (c .empty .ensures ∙ put-none (l .s) (plain.target (x .head)) (c .before .before .before .before .before .before .before .before .before .before .before .before .before .if2 .taken) (c .before .enum-told2 .given .1)))))
+    let x0 = walks.going-next w0 (c .before .before .before .before .before .before .before .before .before .before .before .before .before .before .before .before .before .loop-test .taken) in (
+      omega (arith, c .before .before .before .before .before .before .before .before .before .before .before .before .before .before .before .before .statement-end .ensures (x0 .head) (x0 .head-is), statement-some (x0 .head)),
+      (
+        c .before .before .before .before .before .before .before .before .before .before .before .before .before .before .before .before .before .before .loop .inv .1 .0,
+        (
+          rw (c .empty .ensures),
+          λ t h.
+              let s = c .before .before .before .before .before .before .before .before .before .before .before .before .before .before .before .before .before .before .before .before .before .before in
+              let l = c .before .before .before .before .before .before .before .before .before .before .before .before .before .before .before .before .before .before .loop in
+              let G = l .inv .1 .1 .1 t h in
+              let some = c .before .before .before .before .before .before .before .before .before .before .before .before .before .before .before .before .before .loop-test .taken in
+              let x = walks.going-next G some in
+              let e = c .before .before .before .before .before .before .before .before .before .before .before .before .before .before .before .before .statement-end .ensures (x .head) (x .head-is) in
+              let f = walks.going-part G some (c .before .before .before .before .before .before .before .before .before .before .before .before .before .before .before .before .statement-end .result) e in
+              let k = walks.kind-below (walks.going-kind G some) (c .before .before .before .before .before .before .before .before .before .before .before .before .before .before .if1 .taken) in
+              let p = s .pre .1 .0 in
+              let own = walks.going-own G some k in
+              let src = c .before .before .before .before .before .before .before .before .before .before .source .ensures (x .head) f in
+              let w = l .inv .1 .1 .1 (p .tree) (p .is) in
+              let y = walks.going-next w some in
+              let ky = walks.kind-below (walks.going-kind w some) (c .before .before .before .before .before .before .before .before .before .before .before .before .before .before .if1 .taken) in
+              let wy = walks.going-statement w some (p .within) in
+              let ey = c .before .before .before .before .before .before .before .before .before .before .before .before .before .before .before .before .statement-end .ensures (y .head) (y .head-is) in
+              let own-cell = there (l .s .cells) (getD (s .args .words .now) (l .at + 1) 0) _ (omega (arith, l .inv .1 .1 .0, walks.going-own w some ky, target-below (y .head) wy ky, s .pre .1 .1 .0)) in
+              let read-cell = there (l .s .cells) (c .before .before .before .before .before .before .before .before .before .before .source .result) _ (omega (arith, l .inv .1 .1 .0, c .before .before .before .before .before .before .before .before .before .before .source .ensures (y .head) (walks.going-part w some (c .before .before .before .before .before .before .before .before .before .before .before .before .before .before .before .before .statement-end .result) ey), source-below (y .head) wy ky, s .pre .1 .1 .0)) in
+              walks.going-changed G some k _ _ (ap (λ (z : Cell). z .range) own-cell ∙ ap (λ (v : ℕ). states.get (l .s) v) own) (ap (λ (z : Cell). z .range) read-cell ∙ ap (λ (v : ℕ). states.get (l .s) v) src) (c .before .before .before .before .before .before .before .before .before .before .before .before .before .before .before .before .statement-end .result) e (sym (c .before .before .before .before .range .given .1) ∙ c .before .before .before .before .before .before .change .ensures (x .head) f) (c .empty .result) (c .empty .ensures ∙ put-none (l .s) (plain.target (x .head)) (c .before .before .before .before .before .before .before .before .before .before .before .before .before .if2 .taken) (c .before .enum-told2 .given .1)),
+        ),
+      ),
+    )
 
 -- src/walk.rt:76:40
 list-enum-told-3 : (t : ℕ) → list-lts.Need-enum-told-3 (list-claims t) (list-at t) list.Post list-Inv-loop list-μ-loop
@@ -1055,27 +1075,35 @@ list-loop-again-2 : (t : ℕ) → list-lts.Need-loop-again-2 (list-claims t) (li
 list-loop-again-2 t c =
     let p = c .before .before .before .before .before .before .before .before .before .before .before .before .before .before .before .before .before .before .before .before .before .pre .1 .0 in
     let w0 = c .before .before .before .before .before .before .before .before .before .before .before .before .before .before .before .before .before .loop .inv .1 .1 .1 (p .tree) (p .is) in
-    let x0 = walks.going-next w0 (c .before .before .before .before .before .before .before .before .before .before .before .before .before .before .before .before .loop-test .taken) in
-    (omega (arith, c .before .before .before .before .before .before .before .before .before .before .before .before .before .before .before .statement-end .ensures (x0 .head) (x0 .head-is), statement-some (x0 .head)), (c .before .before .before .before .before .before .before .before .before .before .before .before .before .before .before .before .before .loop .inv .1 .0, (simp length-set (c .before .before .before .before .before .before .before .before .before .before .before .before .before .before .before .before .before .loop .inv .1 .1 .0), λ t h.
-        let s = c .before .before .before .before .before .before .before .before .before .before .before .before .before .before .before .before .before .before .before .before .before in
-        let l = c .before .before .before .before .before .before .before .before .before .before .before .before .before .before .before .before .before .loop in
-        let G = l .inv .1 .1 .1 t h in
-        let some = c .before .before .before .before .before .before .before .before .before .before .before .before .before .before .before .before .loop-test .taken in
-        let x = walks.going-next G some in
-        let e = c .before .before .before .before .before .before .before .before .before .before .before .before .before .before .before .statement-end .ensures (x .head) (x .head-is) in
-        let f = walks.going-part G some (c .before .before .before .before .before .before .before .before .before .before .before .before .before .before .before .statement-end .result) e in
-        let k = walks.kind-below (walks.going-kind G some) (c .before .before .before .before .before .before .before .before .before .before .before .before .before .if1 .taken) in
-        let p = s .pre .1 .0 in
-        let own = walks.going-own G some k in
-        let src = c .before .before .before .before .before .before .before .before .before .source .ensures (x .head) f in
-        let w = l .inv .1 .1 .1 (p .tree) (p .is) in
-        let y = walks.going-next w some in
-        let ky = walks.kind-below (walks.going-kind w some) (c .before .before .before .before .before .before .before .before .before .before .before .before .before .if1 .taken) in
-        let wy = walks.going-statement w some (p .within) in
-        let ey = c .before .before .before .before .before .before .before .before .before .before .before .before .before .before .before .statement-end .ensures (y .head) (y .head-is) in
-        let own-cell = there (l .s .cells) (getD (s .args .words .now) (l .at + 1) 0) _ (omega (arith, l .inv .1 .1 .0, walks.going-own w some ky, target-below (y .head) wy ky, s .pre .1 .1 .0)) in
-        let read-cell = there (l .s .cells) (c .before .before .before .before .before .before .before .before .before .source .result) _ (omega (arith, l .inv .1 .1 .0, c .before .before .before .before .before .before .before .before .before .source .ensures (y .head) (walks.going-part w some (c .before .before .before .before .before .before .before .before .before .before .before .before .before .before .before .statement-end .result) ey), source-below (y .head) wy ky, s .pre .1 .1 .0)) in
-        walks.going-changed G some k _ _ (ap (λ (z : Cell). z .range) own-cell ∙ ap (λ (v : ℕ). states.get (l .s) v) own) (ap (λ (z : Cell). z .range) read-cell ∙ ap (λ (v : ℕ). states.get (l .s) v) src) (c .before .before .before .before .before .before .before .before .before .before .before .before .before .before .before .statement-end .result) e (sym (c .before .before .before .range .given .1) ∙ c .before .before .before .before .before .change .ensures (x .head) f) _ (put-span (l .s) (getD (s .args .words .now) (l .at + 1) 0) (c .before .before .before .before .before .before .before .before .before .before .before .before .if2 .taken) (c .enum-told3 .given .1) ∙ ap (λ (v : ℕ). states.put (l .s) v (c .before .before .before .range .given .0 .0)) own))))
+    let x0 = walks.going-next w0 (c .before .before .before .before .before .before .before .before .before .before .before .before .before .before .before .before .loop-test .taken) in (
+      omega (arith, c .before .before .before .before .before .before .before .before .before .before .before .before .before .before .before .statement-end .ensures (x0 .head) (x0 .head-is), statement-some (x0 .head)),
+      (
+        c .before .before .before .before .before .before .before .before .before .before .before .before .before .before .before .before .before .loop .inv .1 .0,
+        (
+          simp length-set (c .before .before .before .before .before .before .before .before .before .before .before .before .before .before .before .before .before .loop .inv .1 .1 .0),
+          λ t h.
+              let s = c .before .before .before .before .before .before .before .before .before .before .before .before .before .before .before .before .before .before .before .before .before in
+              let l = c .before .before .before .before .before .before .before .before .before .before .before .before .before .before .before .before .before .loop in
+              let G = l .inv .1 .1 .1 t h in
+              let some = c .before .before .before .before .before .before .before .before .before .before .before .before .before .before .before .before .loop-test .taken in
+              let x = walks.going-next G some in
+              let e = c .before .before .before .before .before .before .before .before .before .before .before .before .before .before .before .statement-end .ensures (x .head) (x .head-is) in
+              let f = walks.going-part G some (c .before .before .before .before .before .before .before .before .before .before .before .before .before .before .before .statement-end .result) e in
+              let k = walks.kind-below (walks.going-kind G some) (c .before .before .before .before .before .before .before .before .before .before .before .before .before .if1 .taken) in
+              let p = s .pre .1 .0 in
+              let own = walks.going-own G some k in
+              let src = c .before .before .before .before .before .before .before .before .before .source .ensures (x .head) f in
+              let w = l .inv .1 .1 .1 (p .tree) (p .is) in
+              let y = walks.going-next w some in
+              let ky = walks.kind-below (walks.going-kind w some) (c .before .before .before .before .before .before .before .before .before .before .before .before .before .if1 .taken) in
+              let wy = walks.going-statement w some (p .within) in
+              let ey = c .before .before .before .before .before .before .before .before .before .before .before .before .before .before .before .statement-end .ensures (y .head) (y .head-is) in
+              let own-cell = there (l .s .cells) (getD (s .args .words .now) (l .at + 1) 0) _ (omega (arith, l .inv .1 .1 .0, walks.going-own w some ky, target-below (y .head) wy ky, s .pre .1 .1 .0)) in
+              let read-cell = there (l .s .cells) (c .before .before .before .before .before .before .before .before .before .source .result) _ (omega (arith, l .inv .1 .1 .0, c .before .before .before .before .before .before .before .before .before .source .ensures (y .head) (walks.going-part w some (c .before .before .before .before .before .before .before .before .before .before .before .before .before .before .before .statement-end .result) ey), source-below (y .head) wy ky, s .pre .1 .1 .0)) in
+              walks.going-changed G some k _ _ (ap (λ (z : Cell). z .range) own-cell ∙ ap (λ (v : ℕ). states.get (l .s) v) own) (ap (λ (z : Cell). z .range) read-cell ∙ ap (λ (v : ℕ). states.get (l .s) v) src) (c .before .before .before .before .before .before .before .before .before .before .before .before .before .before .before .statement-end .result) e (sym (c .before .before .before .range .given .1) ∙ c .before .before .before .before .before .change .ensures (x .head) f) _ (put-span (l .s) (getD (s .args .words .now) (l .at + 1) 0) (c .before .before .before .before .before .before .before .before .before .before .before .before .if2 .taken) (c .enum-told3 .given .1) ∙ ap (λ (v : ℕ). states.put (l .s) v (c .before .before .before .range .given .0 .0)) own),
+        ),
+      ),
+    )
 
 -- src/walk.rt:56:5
 list-loop-less-3 : (t : ℕ) → list-lts.Need-loop-less-3 (list-claims t) (list-at t) list.Post list-Inv-loop list-μ-loop
@@ -1086,17 +1114,25 @@ list-loop-again-3 : (t : ℕ) → list-lts.Need-loop-again-3 (list-claims t) (li
 list-loop-again-3 t c =
     let p = c .before .before .before .before .before .before .before .before .before .pre .1 .0 in
     let w0 = c .before .before .before .before .before .loop .inv .1 .1 .1 (p .tree) (p .is) in
-    let x0 = walks.going-next w0 (c .before .before .before .before .loop-test .taken) in
-    (omega (arith, c .before .before .before .statement-end .ensures (x0 .head) (x0 .head-is), statement-some (x0 .head)), (c .before .before .before .before .before .loop .inv .1 .0, (c .before .before .before .before .before .loop .inv .1 .1 .0, λ t h.
-        let s = c .before .before .before .before .before .before .before .before .before in
-        let l = c .before .before .before .before .before .loop in
-        let G = l .inv .1 .1 .1 t h in
-        let some = c .before .before .before .before .loop-test .taken in
-        let x = walks.going-next G some in
-        let e = c .before .before .before .statement-end .ensures (x .head) (x .head-is) in
-        let f = walks.going-part G some (c .before .before .before .statement-end .result) e in
-        let k = walks.kind-below (walks.going-kind G some) (c .before .if1 .taken) in
-        walks.going-dead G some k (c .before .before .before .statement-end .result) e (c .if2 .left))))
+    let x0 = walks.going-next w0 (c .before .before .before .before .loop-test .taken) in (
+      omega (arith, c .before .before .before .statement-end .ensures (x0 .head) (x0 .head-is), statement-some (x0 .head)),
+      (
+        c .before .before .before .before .before .loop .inv .1 .0,
+        (
+          c .before .before .before .before .before .loop .inv .1 .1 .0,
+          λ t h.
+              let s = c .before .before .before .before .before .before .before .before .before in
+              let l = c .before .before .before .before .before .loop in
+              let G = l .inv .1 .1 .1 t h in
+              let some = c .before .before .before .before .loop-test .taken in
+              let x = walks.going-next G some in
+              let e = c .before .before .before .statement-end .ensures (x .head) (x .head-is) in
+              let f = walks.going-part G some (c .before .before .before .statement-end .result) e in
+              let k = walks.kind-below (walks.going-kind G some) (c .before .if1 .taken) in
+              walks.going-dead G some k (c .before .before .before .statement-end .result) e (c .if2 .left),
+        ),
+      ),
+    )
 
 -- src/walk.rt:81:31
 list-mul-statement : (t : ℕ) → list-lts.Need-mul-statement (list-claims t) (list-at t) list.Post list-Inv-loop list-μ-loop
@@ -1174,11 +1210,16 @@ list-statement-requires t c κs =
     let x = walks.going-next G some in
     let e = c .before .before .before .before .statement-end .ensures (x .head) (x .head-is) in
     let inside = walks.going-inside G some in
-    let f = walks.going-part G some (c .before .before .before .before .statement-end .result) e in
-    (omega (arith, ap length f, inside, s .pre .0, l .inv .0),
-      (walks.going-is G some (p .within) (c .before .before .before .before .statement-end .result) e,
-        (omega (arith, walks.going-first-word G some (p .within) (c .before .before .before .before .statement-end .result) e, c .before .before .if1 .left),
-          (s .pre .1 .1 .0, (s .pre .1 .1 .1 .0, omega (arith, ap length f, inside, s .pre .1 .1 .1 .1, l .inv .1 .0))))))
+    let f = walks.going-part G some (c .before .before .before .before .statement-end .result) e in (
+      omega (arith, ap length f, inside, s .pre .0, l .inv .0),
+      (
+        walks.going-is G some (p .within) (c .before .before .before .before .statement-end .result) e,
+        (
+          omega (arith, walks.going-first-word G some (p .within) (c .before .before .before .before .statement-end .result) e, c .before .before .if1 .left),
+          (s .pre .1 .1 .0, (s .pre .1 .1 .1 .0, omega (arith, ap length f, inside, s .pre .1 .1 .1 .1, l .inv .1 .0))),
+        ),
+      ),
+    )
 
 -- src/walk.rt:84:17
 list-enum-told-4 : (t : ℕ) → list-lts.Need-enum-told-4 (list-claims t) (list-at t) list.Post list-Inv-loop list-μ-loop
@@ -1192,14 +1233,14 @@ list-same-length-2 t c = c .before .before .before .before .statement .kept .1 .
 list-returns-2 : (t : ℕ) → list-lts.Need-returns-2 (list-claims t) (list-at t) list.Post list-Inv-loop list-μ-loop
 list-returns-2 t c =
     λ t h.
-        let s = c .before .before .before .before .before .before .before .before .before .before .before .before .before .before .before in
-        let l = c .before .before .before .before .before .before .before .before .before .before .before .loop in
-        let G = l .inv .1 .1 .1 t h in
-        let some = c .before .before .before .before .before .before .before .before .before .before .loop-test .taken in
-        let x = walks.going-next G some in
-        let e = c .before .before .before .before .before .before .before .before .before .statement-end .ensures (x .head) (x .head-is) in
-        let f = walks.going-part G some (c .before .before .before .before .before .before .before .before .before .statement-end .result) e in
-        walks.going-refused G some (c .before .before .before .before .statement .ensures (x .head) f) (c .enum-told4 .given .1)
+    let s = c .before .before .before .before .before .before .before .before .before .before .before .before .before .before .before in
+    let l = c .before .before .before .before .before .before .before .before .before .before .before .loop in
+    let G = l .inv .1 .1 .1 t h in
+    let some = c .before .before .before .before .before .before .before .before .before .before .loop-test .taken in
+    let x = walks.going-next G some in
+    let e = c .before .before .before .before .before .before .before .before .before .statement-end .ensures (x .head) (x .head-is) in
+    let f = walks.going-part G some (c .before .before .before .before .before .before .before .before .before .statement-end .result) e in
+    walks.going-refused G some (c .before .before .before .before .statement .ensures (x .head) f) (c .enum-told4 .given .1)
 
 list-enum-told-5 : (t : ℕ) → list-lts.Need-enum-told-5 (list-claims t) (list-at t) list.Post list-Inv-loop list-μ-loop
 list-enum-told-5 t c = search needs
@@ -1213,16 +1254,24 @@ list-loop-again-4 : (t : ℕ) → list-lts.Need-loop-again-4 (list-claims t) (li
 list-loop-again-4 t c =
     let p = c .before .before .before .before .before .before .before .before .before .before .before .before .before .before .before .before .pre .1 .0 in
     let w0 = c .before .before .before .before .before .before .before .before .before .before .before .before .loop .inv .1 .1 .1 (p .tree) (p .is) in
-    let x0 = walks.going-next w0 (c .before .before .before .before .before .before .before .before .before .before .before .loop-test .taken) in
-    (omega (arith, c .before .before .before .before .before .before .before .before .before .before .statement-end .ensures (x0 .head) (x0 .head-is), statement-some (x0 .head)), (c .before .before .before .before .before .statement .kept .1 .1 .1 .1 .1 .0 ∙ c .before .before .before .before .before .before .before .before .before .before .before .before .loop .inv .1 .0, (answer-long (c .before .before .before .before .before .statement .result) (c .before .before .before .before .before .statement .ok), λ t h.
-        let s = c .before .before .before .before .before .before .before .before .before .before .before .before .before .before .before .before in
-        let l = c .before .before .before .before .before .before .before .before .before .before .before .before .loop in
-        let G = l .inv .1 .1 .1 t h in
-        let some = c .before .before .before .before .before .before .before .before .before .before .before .loop-test .taken in
-        let x = walks.going-next G some in
-        let e = c .before .before .before .before .before .before .before .before .before .before .statement-end .ensures (x .head) (x .head-is) in
-        let f = walks.going-part G some (c .before .before .before .before .before .before .before .before .before .before .statement-end .result) e in
-        walks.going-good G some (c .before .before .before .before .before .statement .ensures (x .head) f) (c .before .before .before .before .before .before .before .before .before .before .statement-end .result) e (c .before .enum-told5 .given .1))))
+    let x0 = walks.going-next w0 (c .before .before .before .before .before .before .before .before .before .before .before .loop-test .taken) in (
+      omega (arith, c .before .before .before .before .before .before .before .before .before .before .statement-end .ensures (x0 .head) (x0 .head-is), statement-some (x0 .head)),
+      (
+        c .before .before .before .before .before .statement .kept .1 .1 .1 .1 .1 .0 ∙ c .before .before .before .before .before .before .before .before .before .before .before .before .loop .inv .1 .0,
+        (
+          answer-long (c .before .before .before .before .before .statement .result) (c .before .before .before .before .before .statement .ok),
+          λ t h.
+              let s = c .before .before .before .before .before .before .before .before .before .before .before .before .before .before .before .before in
+              let l = c .before .before .before .before .before .before .before .before .before .before .before .before .loop in
+              let G = l .inv .1 .1 .1 t h in
+              let some = c .before .before .before .before .before .before .before .before .before .before .before .loop-test .taken in
+              let x = walks.going-next G some in
+              let e = c .before .before .before .before .before .before .before .before .before .before .statement-end .ensures (x .head) (x .head-is) in
+              let f = walks.going-part G some (c .before .before .before .before .before .before .before .before .before .before .statement-end .result) e in
+              walks.going-good G some (c .before .before .before .before .before .statement .ensures (x .head) f) (c .before .before .before .before .before .before .before .before .before .before .statement-end .result) e (c .before .enum-told5 .given .1),
+        ),
+      ),
+    )
 
 -- src/walk.rt:89:5
 list-good-requires : (t : ℕ) → list-lts.Need-good-requires (list-claims t) (list-at t) list.Post list-Inv-loop list-μ-loop
@@ -1236,10 +1285,10 @@ list-same-length-3 t c = c .before .before .loop .inv .1 .0
 list-returns-3 : (t : ℕ) → list-lts.Need-returns-3 (list-claims t) (list-at t) list.Post list-Inv-loop list-μ-loop
 list-returns-3 t c =
     λ t h.
-        let s = c .before .before .before .before .before .before in
-        let l = c .before .before .loop in
-        let j = walks.going-last (l .inv .1 .1 .1 t h) (omega (arith, c .before .loop-test .left)) in
-        record { out = c .good2 .ensures ∙ j .out; marks = j .marks }
+    let s = c .before .before .before .before .before .before in
+    let l = c .before .before .loop in
+    let j = walks.going-last (l .inv .1 .1 .1 t h) (omega (arith, c .before .loop-test .left)) in
+    record { out = c .good2 .ensures ∙ j .out; marks = j .marks }
 
 -- src/walk.rt:331:9
 looped-search-requires : (t : ℕ) → looped-lts.Need-search-requires (looped-claims t) (looped-at t) looped.Post
@@ -1267,11 +1316,11 @@ looped-same-length t c = c .before .before .before .before .before .before .befo
 looped-returns : (t : ℕ) → looped-lts.Need-returns (looped-claims t) (looped-at t) looped.Post
 looped-returns t c =
     λ u e b h.
-        let s = c .before .before .before .before .before .before .before .before .before .before .before in
-        let g = setting (s .args .n) (s .args .unroll) in
-        let U = rules.turns g u in
-        let q = c .before .before .before .before .before .before .before .search .ensures u e b h in
-        rw (c .no-loop .ensures) (turns-laws.loop-unsearched g (s .args .base) e b U (s .args .state) q (sym (c .before .before .before .before .refusal .ensures) ∙ c .before .before .searching .given .1))
+    let s = c .before .before .before .before .before .before .before .before .before .before .before in
+    let g = setting (s .args .n) (s .args .unroll) in
+    let U = rules.turns g u in
+    let q = c .before .before .before .before .before .before .before .search .ensures u e b h in
+    rw (c .no-loop .ensures) (turns-laws.loop-unsearched g (s .args .base) e b U (s .args .state) q (sym (c .before .before .before .before .refusal .ensures) ∙ c .before .before .searching .given .1))
 
 looped-enum-told : (t : ℕ) → looped-lts.Need-enum-told (looped-claims t) (looped-at t) looped.Post
 looped-enum-told t c = search needs
@@ -1306,17 +1355,17 @@ looped-same-length-2 t c = c .before .before .before .before .before .before .un
 looped-returns-2 : (t : ℕ) → looped-lts.Need-returns-2 (looped-claims t) (looped-at t) looped.Post
 looped-returns-2 t c =
     λ u e b h.
-        let s = c .before .before .before .before .before .before .before .before .before .before .before .before .before .before .before .before .before .before .before in
-        let g = setting (s .args .n) (s .args .unroll) in
-        let U = rules.turns g u in
-        let q = c .before .before .before .before .before .before .before .before .before .before .before .before .before .before .before .search .ensures u e b h in
-        let f = turns-laws.finds (noted.search g (s .args .base) e b 100 0 (s .args .state) .answer) (q .out) (sym (c .before .before .before .before .before .before .before .before .before .before .before .before .refusal .ensures) ∙ c .before .before .before .before .before .before .before .before .before .before .enum-told .given .1) in
-        let on = turns-laws.loop-searched g (s .args .base) e b U (s .args .state) q f in
-        let own = c .before .before .before .before .before .before .before .before .before .turns .ensures u e b h in
-        let many : c .before .before .before .before .before .before .before .before .unrolls .result ≡ rules.unroll-passes U (f .found) = c .before .before .before .before .before .before .before .before .unrolls .ensures ∙ ap (λ (k : ℕ). stages.unrolls-by k (c .before .before .before .before .before .before .before .before .before .before .before .before .before .before .before .search .result)) own ∙ f .unrolls U in
-        let t = c .before .before .before .before .before .before .unrolled .ensures u e b h in
-        let count = c .before .before .before .before .before .before .before .before .unrolls .result in
-        rw (c .no-loop2 .ensures) (on .on _ _ (turns-laws.loop-unturned g (s .args .base) e b U (s .args .state) (f .found) count many t (c .before .before .turning .given .1)))
+    let s = c .before .before .before .before .before .before .before .before .before .before .before .before .before .before .before .before .before .before .before in
+    let g = setting (s .args .n) (s .args .unroll) in
+    let U = rules.turns g u in
+    let q = c .before .before .before .before .before .before .before .before .before .before .before .before .before .before .before .search .ensures u e b h in
+    let f = turns-laws.finds (noted.search g (s .args .base) e b 100 0 (s .args .state) .answer) (q .out) (sym (c .before .before .before .before .before .before .before .before .before .before .before .before .refusal .ensures) ∙ c .before .before .before .before .before .before .before .before .before .before .enum-told .given .1) in
+    let on = turns-laws.loop-searched g (s .args .base) e b U (s .args .state) q f in
+    let own = c .before .before .before .before .before .before .before .before .before .turns .ensures u e b h in
+    let many : c .before .before .before .before .before .before .before .before .unrolls .result ≡ rules.unroll-passes U (f .found) = c .before .before .before .before .before .before .before .before .unrolls .ensures ∙ ap (λ (k : ℕ). stages.unrolls-by k (c .before .before .before .before .before .before .before .before .before .before .before .before .before .before .before .search .result)) own ∙ f .unrolls U in
+    let t = c .before .before .before .before .before .before .unrolled .ensures u e b h in
+    let count = c .before .before .before .before .before .before .before .before .unrolls .result in
+    rw (c .no-loop2 .ensures) (on .on _ _ (turns-laws.loop-unturned g (s .args .base) e b U (s .args .state) (f .found) count many t (c .before .before .turning .given .1)))
 
 looped-enum-told-2 : (t : ℕ) → looped-lts.Need-enum-told-2 (looped-claims t) (looped-at t) looped.Post
 looped-enum-told-2 t c = search needs
@@ -1343,20 +1392,20 @@ looped-same-length-3 t c = c .before .before .before .before .before .before .se
 looped-returns-3 : (t : ℕ) → looped-lts.Need-returns-3 (looped-claims t) (looped-at t) looped.Post
 looped-returns-3 t c =
     λ u e b h.
-        let s = c .before .before .before .before .before .before .before .before .before .before .before .before .before .before .before .before .before .before .before .before .before .before .before .before .before .before in
-        let g = setting (s .args .n) (s .args .unroll) in
-        let U = rules.turns g u in
-        let q = c .before .before .before .before .before .before .before .before .before .before .before .before .before .before .before .before .before .before .before .before .before .before .search .ensures u e b h in
-        let f = turns-laws.finds (noted.search g (s .args .base) e b 100 0 (s .args .state) .answer) (q .out) (sym (c .before .before .before .before .before .before .before .before .before .before .before .before .before .before .before .before .before .before .before .refusal .ensures) ∙ c .before .before .before .before .before .before .before .before .before .before .before .before .before .before .before .before .before .enum-told .given .1) in
-        let on = turns-laws.loop-searched g (s .args .base) e b U (s .args .state) q f in
-        let own = c .before .before .before .before .before .before .before .before .before .before .before .before .before .before .before .before .turns .ensures u e b h in
-        let many : c .before .before .before .before .before .before .before .before .before .before .before .before .before .before .before .unrolls .result ≡ rules.unroll-passes U (f .found) = c .before .before .before .before .before .before .before .before .before .before .before .before .before .before .before .unrolls .ensures ∙ ap (λ (k : ℕ). stages.unrolls-by k (c .before .before .before .before .before .before .before .before .before .before .before .before .before .before .before .before .before .before .before .before .before .before .search .result)) own ∙ f .unrolls U in
-        let t = c .before .before .before .before .before .before .before .before .before .before .before .before .before .unrolled .ensures u e b h in
-        let count = c .before .before .before .before .before .before .before .before .before .before .before .before .before .before .before .unrolls .result in
-        let was : rules.Pass = record { next = c .before .before .before .before .before .before .before .before .before .before .before .before .before .unrolled .result .next; exit = c .before .before .before .before .before .before .before .before .before .before .before .before .before .unrolled .result .exit } in
-        let on2 = leads-then on (turns-laws.loop-turned g (s .args .base) e b U (s .args .state) (f .found) count many t (c .before .before .before .before .before .before .before .before .before .enum-told2 .given .1)) in
-        let m = c .before .before .before .before .before .before .settle .ensures u e b h in
-        rw (c .no-loop3 .ensures) (on2 .on _ _ (turns-laws.loop-unsettled g (s .args .base) e b U (s .args .state) (f .found) was m (c .before .before .settling .given .1)))
+    let s = c .before .before .before .before .before .before .before .before .before .before .before .before .before .before .before .before .before .before .before .before .before .before .before .before .before .before in
+    let g = setting (s .args .n) (s .args .unroll) in
+    let U = rules.turns g u in
+    let q = c .before .before .before .before .before .before .before .before .before .before .before .before .before .before .before .before .before .before .before .before .before .before .search .ensures u e b h in
+    let f = turns-laws.finds (noted.search g (s .args .base) e b 100 0 (s .args .state) .answer) (q .out) (sym (c .before .before .before .before .before .before .before .before .before .before .before .before .before .before .before .before .before .before .before .refusal .ensures) ∙ c .before .before .before .before .before .before .before .before .before .before .before .before .before .before .before .before .before .enum-told .given .1) in
+    let on = turns-laws.loop-searched g (s .args .base) e b U (s .args .state) q f in
+    let own = c .before .before .before .before .before .before .before .before .before .before .before .before .before .before .before .before .turns .ensures u e b h in
+    let many : c .before .before .before .before .before .before .before .before .before .before .before .before .before .before .before .unrolls .result ≡ rules.unroll-passes U (f .found) = c .before .before .before .before .before .before .before .before .before .before .before .before .before .before .before .unrolls .ensures ∙ ap (λ (k : ℕ). stages.unrolls-by k (c .before .before .before .before .before .before .before .before .before .before .before .before .before .before .before .before .before .before .before .before .before .before .search .result)) own ∙ f .unrolls U in
+    let t = c .before .before .before .before .before .before .before .before .before .before .before .before .before .unrolled .ensures u e b h in
+    let count = c .before .before .before .before .before .before .before .before .before .before .before .before .before .before .before .unrolls .result in
+    let was : rules.Pass = record { next = c .before .before .before .before .before .before .before .before .before .before .before .before .before .unrolled .result .next; exit = c .before .before .before .before .before .before .before .before .before .before .before .before .before .unrolled .result .exit } in
+    let on2 = leads-then on (turns-laws.loop-turned g (s .args .base) e b U (s .args .state) (f .found) count many t (c .before .before .before .before .before .before .before .before .before .enum-told2 .given .1)) in
+    let m = c .before .before .before .before .before .before .settle .ensures u e b h in
+    rw (c .no-loop3 .ensures) (on2 .on _ _ (turns-laws.loop-unsettled g (s .args .base) e b U (s .args .state) (f .found) was m (c .before .before .settling .given .1)))
 
 looped-enum-told-3 : (t : ℕ) → looped-lts.Need-enum-told-3 (looped-claims t) (looped-at t) looped.Post
 looped-enum-told-3 t c = search needs
@@ -1383,21 +1432,21 @@ looped-same-length-4 t c = c .before .before .before .before .before .before .be
 looped-returns-4 : (t : ℕ) → looped-lts.Need-returns-4 (looped-claims t) (looped-at t) looped.Post
 looped-returns-4 t c =
     λ u e b h.
-        let s = c .before .before .before .before .before .before .before .before .before .before .before .before .before .before .before .before .before .before .before .before .before .before .before .before .before .before .before .before .before .before in
-        let g = setting (s .args .n) (s .args .unroll) in
-        let U = rules.turns g u in
-        let q = c .before .before .before .before .before .before .before .before .before .before .before .before .before .before .before .before .before .before .before .before .before .before .before .before .before .before .search .ensures u e b h in
-        let f = turns-laws.finds (noted.search g (s .args .base) e b 100 0 (s .args .state) .answer) (q .out) (sym (c .before .before .before .before .before .before .before .before .before .before .before .before .before .before .before .before .before .before .before .before .before .before .before .refusal .ensures) ∙ c .before .before .before .before .before .before .before .before .before .before .before .before .before .before .before .before .before .before .before .before .before .enum-told .given .1) in
-        let on = turns-laws.loop-searched g (s .args .base) e b U (s .args .state) q f in
-        let own = c .before .before .before .before .before .before .before .before .before .before .before .before .before .before .before .before .before .before .before .before .turns .ensures u e b h in
-        let many : c .before .before .before .before .before .before .before .before .before .before .before .before .before .before .before .before .before .before .before .unrolls .result ≡ rules.unroll-passes U (f .found) = c .before .before .before .before .before .before .before .before .before .before .before .before .before .before .before .before .before .before .before .unrolls .ensures ∙ ap (λ (k : ℕ). stages.unrolls-by k (c .before .before .before .before .before .before .before .before .before .before .before .before .before .before .before .before .before .before .before .before .before .before .before .before .before .before .search .result)) own ∙ f .unrolls U in
-        let t = c .before .before .before .before .before .before .before .before .before .before .before .before .before .before .before .before .before .unrolled .ensures u e b h in
-        let count = c .before .before .before .before .before .before .before .before .before .before .before .before .before .before .before .before .before .before .before .unrolls .result in
-        let was : rules.Pass = record { next = c .before .before .before .before .before .before .before .before .before .before .before .before .before .before .before .before .before .unrolled .result .next; exit = c .before .before .before .before .before .before .before .before .before .before .before .before .before .before .before .before .before .unrolled .result .exit } in
-        let on2 = leads-then on (turns-laws.loop-turned g (s .args .base) e b U (s .args .state) (f .found) count many t (c .before .before .before .before .before .before .before .before .before .before .before .before .before .enum-told2 .given .1)) in
-        let m = c .before .before .before .before .before .before .before .before .before .before .settle .ensures u e b h in
-        let x = c .before .before .before .before .leave .ensures (s .args .unroll) u e b h in
-        rw (c .no-loop4 .ensures) (on2 .on _ _ (turns-laws.loop-unleft g (s .args .base) e b U (s .args .state) (f .found) was m (c .before .before .before .before .before .before .enum-told3 .given .1) (answered-refused _ x (c .before .before .leaving .given .1))))
+    let s = c .before .before .before .before .before .before .before .before .before .before .before .before .before .before .before .before .before .before .before .before .before .before .before .before .before .before .before .before .before .before in
+    let g = setting (s .args .n) (s .args .unroll) in
+    let U = rules.turns g u in
+    let q = c .before .before .before .before .before .before .before .before .before .before .before .before .before .before .before .before .before .before .before .before .before .before .before .before .before .before .search .ensures u e b h in
+    let f = turns-laws.finds (noted.search g (s .args .base) e b 100 0 (s .args .state) .answer) (q .out) (sym (c .before .before .before .before .before .before .before .before .before .before .before .before .before .before .before .before .before .before .before .before .before .before .before .refusal .ensures) ∙ c .before .before .before .before .before .before .before .before .before .before .before .before .before .before .before .before .before .before .before .before .before .enum-told .given .1) in
+    let on = turns-laws.loop-searched g (s .args .base) e b U (s .args .state) q f in
+    let own = c .before .before .before .before .before .before .before .before .before .before .before .before .before .before .before .before .before .before .before .before .turns .ensures u e b h in
+    let many : c .before .before .before .before .before .before .before .before .before .before .before .before .before .before .before .before .before .before .before .unrolls .result ≡ rules.unroll-passes U (f .found) = c .before .before .before .before .before .before .before .before .before .before .before .before .before .before .before .before .before .before .before .unrolls .ensures ∙ ap (λ (k : ℕ). stages.unrolls-by k (c .before .before .before .before .before .before .before .before .before .before .before .before .before .before .before .before .before .before .before .before .before .before .before .before .before .before .search .result)) own ∙ f .unrolls U in
+    let t = c .before .before .before .before .before .before .before .before .before .before .before .before .before .before .before .before .before .unrolled .ensures u e b h in
+    let count = c .before .before .before .before .before .before .before .before .before .before .before .before .before .before .before .before .before .before .before .unrolls .result in
+    let was : rules.Pass = record { next = c .before .before .before .before .before .before .before .before .before .before .before .before .before .before .before .before .before .unrolled .result .next; exit = c .before .before .before .before .before .before .before .before .before .before .before .before .before .before .before .before .before .unrolled .result .exit } in
+    let on2 = leads-then on (turns-laws.loop-turned g (s .args .base) e b U (s .args .state) (f .found) count many t (c .before .before .before .before .before .before .before .before .before .before .before .before .before .enum-told2 .given .1)) in
+    let m = c .before .before .before .before .before .before .before .before .before .before .settle .ensures u e b h in
+    let x = c .before .before .before .before .leave .ensures (s .args .unroll) u e b h in
+    rw (c .no-loop4 .ensures) (on2 .on _ _ (turns-laws.loop-unleft g (s .args .base) e b U (s .args .state) (f .found) was m (c .before .before .before .before .before .before .enum-told3 .given .1) (answered-refused _ x (c .before .before .leaving .given .1))))
 
 looped-enum-told-4 : (t : ℕ) → looped-lts.Need-enum-told-4 (looped-claims t) (looped-at t) looped.Post
 looped-enum-told-4 t c = search needs
@@ -1425,21 +1474,21 @@ looped-same-length-5 t c = c .before .before .before .before .before .before .be
 looped-returns-5 : (t : ℕ) → looped-lts.Need-returns-5 (looped-claims t) (looped-at t) looped.Post
 looped-returns-5 t c =
     λ u e b h.
-        let s = c .before .before .before .before .before .before .before .before .before .before .before .before .before .before .before .before .before .before .before .before .before .before .before .before .before .before .before .before .before .before .before .before .before in
-        let g = setting (s .args .n) (s .args .unroll) in
-        let U = rules.turns g u in
-        let q = c .before .before .before .before .before .before .before .before .before .before .before .before .before .before .before .before .before .before .before .before .before .before .before .before .before .before .before .before .before .search .ensures u e b h in
-        let f = turns-laws.finds (noted.search g (s .args .base) e b 100 0 (s .args .state) .answer) (q .out) (sym (c .before .before .before .before .before .before .before .before .before .before .before .before .before .before .before .before .before .before .before .before .before .before .before .before .before .before .refusal .ensures) ∙ c .before .before .before .before .before .before .before .before .before .before .before .before .before .before .before .before .before .before .before .before .before .before .before .before .enum-told .given .1) in
-        let on = turns-laws.loop-searched g (s .args .base) e b U (s .args .state) q f in
-        let own = c .before .before .before .before .before .before .before .before .before .before .before .before .before .before .before .before .before .before .before .before .before .before .before .turns .ensures u e b h in
-        let many : c .before .before .before .before .before .before .before .before .before .before .before .before .before .before .before .before .before .before .before .before .before .before .unrolls .result ≡ rules.unroll-passes U (f .found) = c .before .before .before .before .before .before .before .before .before .before .before .before .before .before .before .before .before .before .before .before .before .before .unrolls .ensures ∙ ap (λ (k : ℕ). stages.unrolls-by k (c .before .before .before .before .before .before .before .before .before .before .before .before .before .before .before .before .before .before .before .before .before .before .before .before .before .before .before .before .before .search .result)) own ∙ f .unrolls U in
-        let t = c .before .before .before .before .before .before .before .before .before .before .before .before .before .before .before .before .before .before .before .before .unrolled .ensures u e b h in
-        let count = c .before .before .before .before .before .before .before .before .before .before .before .before .before .before .before .before .before .before .before .before .before .before .unrolls .result in
-        let was : rules.Pass = record { next = c .before .before .before .before .before .before .before .before .before .before .before .before .before .before .before .before .before .before .before .before .unrolled .result .next; exit = c .before .before .before .before .before .before .before .before .before .before .before .before .before .before .before .before .before .before .before .before .unrolled .result .exit } in
-        let on2 = leads-then on (turns-laws.loop-turned g (s .args .base) e b U (s .args .state) (f .found) count many t (c .before .before .before .before .before .before .before .before .before .before .before .before .before .before .before .before .enum-told2 .given .1)) in
-        let m = c .before .before .before .before .before .before .before .before .before .before .before .before .before .settle .ensures u e b h in
-        let x = c .before .before .before .before .before .before .before .leave .ensures (s .args .unroll) u e b h in
-        rw (c .loop-answer .ensures, c .before .before .join .ensures, c .before .searched .ensures, f .searched, many) (on2 .on _ _ (turns-laws.loop-left g (s .args .base) e b U (s .args .state) (f .found) was m (c .before .before .before .before .before .before .before .before .before .enum-told3 .given .1) (answered-good _ x (c .before .before .before .before .before .enum-told4 .given .1))))
+    let s = c .before .before .before .before .before .before .before .before .before .before .before .before .before .before .before .before .before .before .before .before .before .before .before .before .before .before .before .before .before .before .before .before .before in
+    let g = setting (s .args .n) (s .args .unroll) in
+    let U = rules.turns g u in
+    let q = c .before .before .before .before .before .before .before .before .before .before .before .before .before .before .before .before .before .before .before .before .before .before .before .before .before .before .before .before .before .search .ensures u e b h in
+    let f = turns-laws.finds (noted.search g (s .args .base) e b 100 0 (s .args .state) .answer) (q .out) (sym (c .before .before .before .before .before .before .before .before .before .before .before .before .before .before .before .before .before .before .before .before .before .before .before .before .before .before .refusal .ensures) ∙ c .before .before .before .before .before .before .before .before .before .before .before .before .before .before .before .before .before .before .before .before .before .before .before .before .enum-told .given .1) in
+    let on = turns-laws.loop-searched g (s .args .base) e b U (s .args .state) q f in
+    let own = c .before .before .before .before .before .before .before .before .before .before .before .before .before .before .before .before .before .before .before .before .before .before .before .turns .ensures u e b h in
+    let many : c .before .before .before .before .before .before .before .before .before .before .before .before .before .before .before .before .before .before .before .before .before .before .unrolls .result ≡ rules.unroll-passes U (f .found) = c .before .before .before .before .before .before .before .before .before .before .before .before .before .before .before .before .before .before .before .before .before .before .unrolls .ensures ∙ ap (λ (k : ℕ). stages.unrolls-by k (c .before .before .before .before .before .before .before .before .before .before .before .before .before .before .before .before .before .before .before .before .before .before .before .before .before .before .before .before .before .search .result)) own ∙ f .unrolls U in
+    let t = c .before .before .before .before .before .before .before .before .before .before .before .before .before .before .before .before .before .before .before .before .unrolled .ensures u e b h in
+    let count = c .before .before .before .before .before .before .before .before .before .before .before .before .before .before .before .before .before .before .before .before .before .before .unrolls .result in
+    let was : rules.Pass = record { next = c .before .before .before .before .before .before .before .before .before .before .before .before .before .before .before .before .before .before .before .before .unrolled .result .next; exit = c .before .before .before .before .before .before .before .before .before .before .before .before .before .before .before .before .before .before .before .before .unrolled .result .exit } in
+    let on2 = leads-then on (turns-laws.loop-turned g (s .args .base) e b U (s .args .state) (f .found) count many t (c .before .before .before .before .before .before .before .before .before .before .before .before .before .before .before .before .enum-told2 .given .1)) in
+    let m = c .before .before .before .before .before .before .before .before .before .before .before .before .before .settle .ensures u e b h in
+    let x = c .before .before .before .before .before .before .before .leave .ensures (s .args .unroll) u e b h in
+    rw (c .loop-answer .ensures, c .before .before .join .ensures, c .before .searched .ensures, f .searched, many) (on2 .on _ _ (turns-laws.loop-left g (s .args .base) e b U (s .args .state) (f .found) was m (c .before .before .before .before .before .before .before .before .before .enum-told3 .given .1) (answered-good _ x (c .before .before .before .before .before .enum-told4 .given .1))))
 
 abbrev normalize-Inv-loop : normalize-lts.InvT-loop
 normalize-Inv-loop given place body base n unroll marks₀ state v left₀ x₀ joined₀ marks left x joined =
@@ -1463,9 +1512,9 @@ normalize-same-length t c = c .before .before .list .kept .1 .1 .1 .1 .1 .0
 normalize-returns : (t : ℕ) → normalize-lts.Need-returns (normalize-claims t) (normalize-at t) normalize.Post normalize-Inv-loop normalize-μ-loop
 normalize-returns t c =
     λ b h.
-        let s = c .before .before .before .before .before .before .before .before in
-        let g = setting (s .args .n) (s .args .unroll) in
-        given-laws.nothing-given g (s .args .place) (s .args .base) b (s .args .t7) (s .args .given .now) (c .before .before .before .before .if1 .taken) (c .before .before .list .ensures b h)
+    let s = c .before .before .before .before .before .before .before .before in
+    let g = setting (s .args .n) (s .args .unroll) in
+    given-laws.nothing-given g (s .args .place) (s .args .base) b (s .args .t7) (s .args .given .now) (c .before .before .before .before .if1 .taken) (c .before .before .list .ensures b h)
 
 -- src/walk.rt:383:13
 normalize-shared-slice-read-v : (t : ℕ) → normalize-lts.Need-shared-slice-read-v (normalize-claims t) (normalize-at t) normalize.Post normalize-Inv-loop normalize-μ-loop
@@ -1509,14 +1558,14 @@ normalize-refused-requires t c κs = tt
 normalize-returns-2 : (t : ℕ) → normalize-lts.Need-returns-2 (normalize-claims t) (normalize-at t) normalize.Post normalize-Inv-loop normalize-μ-loop
 normalize-returns-2 t c =
     λ b h.
-        let s = c .before .before .before .before .before .before .before .before .before .before in
-        let ne = c .before .before .before .before .before .before .if1 .left in
-        let some : 0 < length (s .args .given .now) = omega arith in
-        let low = given-laws.first-given (s .args .given .now) (s .pre .1 .0) some in
-        let g = setting (s .args .n) (s .args .unroll) in
-        let q = c .before .before .before .values .ensures .0 ∙ ap (λ (z : Cell). stages.values-of (s .args .t7 .live) (z .range)) (there (s .args .t7 .cells) (getD (s .args .given .now) 0 0) _ (omega (arith, s .pre .1 .1 .1 .0, state-long (s .args .t7) (s .good .1 .1 .1 .1 .1 .1 .0)))) in
-        let j = given-laws.as-list g (s .args .place) (s .args .base) b (s .args .t7) (s .args .given .now) some (given-laws.given-unbounded g (s .args .place) (s .args .base) b (s .args .t7) (getD (s .args .given .now) 0 0) (take (length (s .args .given .now) - 1) (drop 1 (s .args .given .now))) (s .args .marks .now) q (c .before .enum-told .given .1)) in
-        record { out = c .refused .ensures ∙ j .out; marks = j .marks }
+    let s = c .before .before .before .before .before .before .before .before .before .before in
+    let ne = c .before .before .before .before .before .before .if1 .left in
+    let some : 0 < length (s .args .given .now) = omega arith in
+    let low = given-laws.first-given (s .args .given .now) (s .pre .1 .0) some in
+    let g = setting (s .args .n) (s .args .unroll) in
+    let q = c .before .before .before .values .ensures .0 ∙ ap (λ (z : Cell). stages.values-of (s .args .t7 .live) (z .range)) (there (s .args .t7 .cells) (getD (s .args .given .now) 0 0) _ (omega (arith, s .pre .1 .1 .1 .0, state-long (s .args .t7) (s .good .1 .1 .1 .1 .1 .1 .0)))) in
+    let j = given-laws.as-list g (s .args .place) (s .args .base) b (s .args .t7) (s .args .given .now) some (given-laws.given-unbounded g (s .args .place) (s .args .base) b (s .args .t7) (getD (s .args .given .now) 0 0) (take (length (s .args .given .now) - 1) (drop 1 (s .args .given .now))) (s .args .marks .now) q (c .before .enum-told .given .1)) in
+    record { out = c .refused .ensures ∙ j .out; marks = j .marks }
 
 -- src/walk.rt:394:13
 normalize-enum-told-2 : (t : ℕ) → normalize-lts.Need-enum-told-2 (normalize-claims t) (normalize-at t) normalize.Post normalize-Inv-loop normalize-μ-loop
@@ -1530,14 +1579,14 @@ normalize-refused-requires-2 t c κs = tt
 normalize-returns-3 : (t : ℕ) → normalize-lts.Need-returns-3 (normalize-claims t) (normalize-at t) normalize.Post normalize-Inv-loop normalize-μ-loop
 normalize-returns-3 t c =
     λ b h.
-        let s = c .before .before .before .before .before .before .before .before .before .before in
-        let ne = c .before .before .before .before .before .before .if1 .left in
-        let some : 0 < length (s .args .given .now) = omega arith in
-        let low = given-laws.first-given (s .args .given .now) (s .pre .1 .0) some in
-        let g = setting (s .args .n) (s .args .unroll) in
-        let q = c .before .before .before .values .ensures .0 ∙ ap (λ (z : Cell). stages.values-of (s .args .t7 .live) (z .range)) (there (s .args .t7 .cells) (getD (s .args .given .now) 0 0) _ (omega (arith, s .pre .1 .1 .1 .0, state-long (s .args .t7) (s .good .1 .1 .1 .1 .1 .1 .0)))) in
-        let j = given-laws.as-list g (s .args .place) (s .args .base) b (s .args .t7) (s .args .given .now) some (given-laws.given-too-many g (s .args .place) (s .args .base) b (s .args .t7) (getD (s .args .given .now) 0 0) (take (length (s .args .given .now) - 1) (drop 1 (s .args .given .now))) (s .args .marks .now) q (c .before .enum-told2 .given .1)) in
-        record { out = c .refused2 .ensures ∙ j .out; marks = j .marks }
+    let s = c .before .before .before .before .before .before .before .before .before .before in
+    let ne = c .before .before .before .before .before .before .if1 .left in
+    let some : 0 < length (s .args .given .now) = omega arith in
+    let low = given-laws.first-given (s .args .given .now) (s .pre .1 .0) some in
+    let g = setting (s .args .n) (s .args .unroll) in
+    let q = c .before .before .before .values .ensures .0 ∙ ap (λ (z : Cell). stages.values-of (s .args .t7 .live) (z .range)) (there (s .args .t7 .cells) (getD (s .args .given .now) 0 0) _ (omega (arith, s .pre .1 .1 .1 .0, state-long (s .args .t7) (s .good .1 .1 .1 .1 .1 .1 .0)))) in
+    let j = given-laws.as-list g (s .args .place) (s .args .base) b (s .args .t7) (s .args .given .now) some (given-laws.given-too-many g (s .args .place) (s .args .base) b (s .args .t7) (getD (s .args .given .now) 0 0) (take (length (s .args .given .now) - 1) (drop 1 (s .args .given .now))) (s .args .marks .now) q (c .before .enum-told2 .given .1)) in
+    record { out = c .refused2 .ensures ∙ j .out; marks = j .marks }
 
 -- src/walk.rt:396:22
 normalize-enum-known-values : (t : ℕ) → normalize-lts.Need-enum-known-values (normalize-claims t) (normalize-at t) normalize.Post normalize-Inv-loop normalize-μ-loop
@@ -1556,15 +1605,23 @@ normalize-loop-holds : (t : ℕ) → normalize-lts.Need-loop-holds (normalize-cl
 normalize-loop-holds t c =
     let s = c .before .before .before .before .before .before .before .before .before .before .before in
     let v = c .before .before .before .before .values .ensures in
-    let told = c .before .before .values2 .given in
-    (refl, (omega (arith, v .1 (told .0 .0) (told .0 .1 .0) (told .1)), (given-laws.from-live (s .args .t7 .live) _ (sym (told .1) ∙ v .0), λ b h.
-        let s = c .before .before .before .before .before .before .before .before .before .before .before in
-        let ne = c .before .before .before .before .before .before .before .if1 .left in
-        let some : 0 < length (s .args .given .now) = omega arith in
-        let low = given-laws.first-given (s .args .given .now) (s .pre .1 .0) some in
-        let g = setting (s .args .n) (s .args .unroll) in
-        let q = c .before .before .before .before .values .ensures .0 ∙ ap (λ (z : Cell). stages.values-of (s .args .t7 .live) (z .range)) (there (s .args .t7 .cells) (getD (s .args .given .now) 0 0) _ (omega (arith, s .pre .1 .1 .1 .0, state-long (s .args .t7) (s .good .1 .1 .1 .1 .1 .1 .0)))) in
-        rw (c .empty .ensures) (given-laws.given-leads g (s .args .place) (s .args .base) b (s .args .t7) (s .args .given .now) some (s .args .marks .now) q (told .1)))))
+    let told = c .before .before .values2 .given in (
+      refl,
+      (
+        omega (arith, v .1 (told .0 .0) (told .0 .1 .0) (told .1)),
+        (
+          given-laws.from-live (s .args .t7 .live) _ (sym (told .1) ∙ v .0),
+          λ b h.
+              let s = c .before .before .before .before .before .before .before .before .before .before .before in
+              let ne = c .before .before .before .before .before .before .before .if1 .left in
+              let some : 0 < length (s .args .given .now) = omega arith in
+              let low = given-laws.first-given (s .args .given .now) (s .pre .1 .0) some in
+              let g = setting (s .args .n) (s .args .unroll) in
+              let q = c .before .before .before .before .values .ensures .0 ∙ ap (λ (z : Cell). stages.values-of (s .args .t7 .live) (z .range)) (there (s .args .t7 .cells) (getD (s .args .given .now) 0 0) _ (omega (arith, s .pre .1 .1 .1 .0, state-long (s .args .t7) (s .good .1 .1 .1 .1 .1 .1 .0)))) in
+              rw (c .empty .ensures) (given-laws.given-leads g (s .args .place) (s .args .base) b (s .args .t7) (s .args .given .now) some (s .args .marks .now) q (told .1)),
+        ),
+      ),
+    )
 
 -- src/walk.rt:405:32
 normalize-cast-t35 : (t : ℕ) → normalize-lts.Need-cast-t35 (normalize-claims t) (normalize-at t) normalize.Post normalize-Inv-loop normalize-μ-loop
@@ -1631,9 +1688,22 @@ normalize-normalize-requires t c κs =
     let ne = c .before .before .before .before .before .before .before .before .before .before .before .if1 .left in
     let some : 0 < length (s .args .given .now) = omega arith in
     let l = s .args .given .now in
-    let rest : length (take (length l - 1) (drop 1 l)) ≡ length l - 1 = (let e = ap length (given-laws.first-and-rest l some) in omega arith) in
-    (omega (arith, rest, s .pre .0), (given-laws.rest-given l (s .pre .1 .0) some, (s .pre .1 .1 .0, (s .pre .1 .1 .1 .0, (s .pre .1 .1 .1 .1 .0,
-      (omega (arith, rest, s .pre .1 .1 .1 .1 .1 .0, c .before .before .before .loop .inv .0), omega (arith, s .pre .1 .1 .1 .1 .1 .1, c .before .before .before .loop .inv .0)))))))
+    let rest : length (take (length l - 1) (drop 1 l)) ≡ length l - 1 = (let e = ap length (given-laws.first-and-rest l some) in omega arith) in (
+      omega (arith, rest, s .pre .0),
+      (
+        given-laws.rest-given l (s .pre .1 .0) some,
+        (
+          s .pre .1 .1 .0,
+          (
+            s .pre .1 .1 .1 .0,
+            (
+              s .pre .1 .1 .1 .1 .0,
+              (omega (arith, rest, s .pre .1 .1 .1 .1 .1 .0, c .before .before .before .loop .inv .0), omega (arith, s .pre .1 .1 .1 .1 .1 .1, c .before .before .before .loop .inv .0)),
+            ),
+          ),
+        ),
+      ),
+    )
 
 -- src/walk.rt:410:13
 normalize-enum-told-3 : (t : ℕ) → normalize-lts.Need-enum-told-3 (normalize-claims t) (normalize-at t) normalize.Post normalize-Inv-loop normalize-μ-loop
@@ -1647,14 +1717,14 @@ normalize-same-length-2 t c = c .before .before .before .before .normalize .kept
 normalize-returns-4 : (t : ℕ) → normalize-lts.Need-returns-4 (normalize-claims t) (normalize-at t) normalize.Post normalize-Inv-loop normalize-μ-loop
 normalize-returns-4 t c =
     λ b h.
-        let s = c .before .before .before .before .before .before .before .before .before .before .before .before .before .before .before .before .before .before .before .before in
-        let l = c .before .before .before .before .before .before .before .before .loop in
-        let g = setting (s .args .n) (s .args .unroll) in
-        let v = getD (s .args .given .now) 0 0 in
-        let vs = take (length (s .args .given .now) - 1) (drop 1 (s .args .given .now)) in
-        let more : l .left ≡ suc (l .left - 1) = omega (arith, c .before .before .before .before .before .before .before .loop-test .taken) in
-        let q = subst (λ (z : State). Says answered (noted.normalized g (s .args .place + 1) vs (s .args .base) b z) (c .before .before .before .before .normalize .result) (l .marks) (c .before .before .before .before .normalize .last .1 .1 .1 .1 .1 .1 .1 .0)) (put-span (s .args .t7) v (l .inv .1 .1 .0) refl) (c .before .before .before .before .normalize .ensures b h) in
-        l .inv .1 .1 .1 b h .on _ _ (given-laws.value-refused g (s .args .place) (s .args .base) b (s .args .t7) v vs (l .left) (l .left - 1) more (l .x) (l .joined) q (c .enum-told3 .given .1))
+    let s = c .before .before .before .before .before .before .before .before .before .before .before .before .before .before .before .before .before .before .before .before in
+    let l = c .before .before .before .before .before .before .before .before .loop in
+    let g = setting (s .args .n) (s .args .unroll) in
+    let v = getD (s .args .given .now) 0 0 in
+    let vs = take (length (s .args .given .now) - 1) (drop 1 (s .args .given .now)) in
+    let more : l .left ≡ suc (l .left - 1) = omega (arith, c .before .before .before .before .before .before .before .loop-test .taken) in
+    let q = subst (λ (z : State). Says answered (noted.normalized g (s .args .place + 1) vs (s .args .base) b z) (c .before .before .before .before .normalize .result) (l .marks) (c .before .before .before .before .normalize .last .1 .1 .1 .1 .1 .1 .1 .0)) (put-span (s .args .t7) v (l .inv .1 .1 .0) refl) (c .before .before .before .before .normalize .ensures b h) in
+    l .inv .1 .1 .1 b h .on _ _ (given-laws.value-refused g (s .args .place) (s .args .base) b (s .args .t7) v vs (l .left) (l .left - 1) more (l .x) (l .joined) q (c .enum-told3 .given .1))
 
 normalize-enum-told-4 : (t : ℕ) → normalize-lts.Need-enum-told-4 (normalize-claims t) (normalize-at t) normalize.Post normalize-Inv-loop normalize-μ-loop
 normalize-enum-told-4 t c = search needs
@@ -1677,16 +1747,24 @@ normalize-loop-less t c = omega (arith, c .before .before .before .before .befor
 
 -- src/walk.rt:402:5
 normalize-loop-again : (t : ℕ) → normalize-lts.Need-loop-again (normalize-claims t) (normalize-at t) normalize.Post normalize-Inv-loop normalize-μ-loop
-normalize-loop-again t c =
-    (c .before .before .before .before .before .before .normalize .kept .1 .1 .1 .1 .1 .1 .1 .0 ∙ c .before .before .before .before .before .before .before .before .before .before .loop .inv .0, (omega (arith, c .before .before .before .before .before .before .before .before .before .before .loop .inv .1 .0, c .before .before .before .before .before .before .before .before .before .loop-test .taken), (c .before .before .before .before .before .before .before .before .before .before .loop .inv .1 .1 .0, λ b h.
-        let s = c .before .before .before .before .before .before .before .before .before .before .before .before .before .before .before .before .before .before .before .before .before .before in
-        let l = c .before .before .before .before .before .before .before .before .before .before .loop in
-        let g = setting (s .args .n) (s .args .unroll) in
-        let v = getD (s .args .given .now) 0 0 in
-        let vs = take (length (s .args .given .now) - 1) (drop 1 (s .args .given .now)) in
-        let more : l .left ≡ suc (l .left - 1) = omega (arith, c .before .before .before .before .before .before .before .before .before .loop-test .taken) in
-        let q = subst (λ (z : State). Says answered (noted.normalized g (s .args .place + 1) vs (s .args .base) b z) (c .before .before .before .before .before .before .normalize .result) (l .marks) (c .before .before .before .before .before .before .normalize .last .1 .1 .1 .1 .1 .1 .1 .0)) (put-span (s .args .t7) v (l .inv .1 .1 .0) refl) (c .before .before .before .before .before .before .normalize .ensures b h) in
-        rw (c .join .ensures) (leads-then (l .inv .1 .1 .1 b h) (given-laws.value-on g (s .args .place) (s .args .base) b (s .args .t7) v vs (l .left) (l .left - 1) more (l .x) (l .joined) q (c .before .before .enum-told4 .given .1))))))
+normalize-loop-again t c = (
+  c .before .before .before .before .before .before .normalize .kept .1 .1 .1 .1 .1 .1 .1 .0 ∙ c .before .before .before .before .before .before .before .before .before .before .loop .inv .0,
+  (
+    omega (arith, c .before .before .before .before .before .before .before .before .before .before .loop .inv .1 .0, c .before .before .before .before .before .before .before .before .before .loop-test .taken),
+    (
+      c .before .before .before .before .before .before .before .before .before .before .loop .inv .1 .1 .0,
+      λ b h.
+          let s = c .before .before .before .before .before .before .before .before .before .before .before .before .before .before .before .before .before .before .before .before .before .before in
+          let l = c .before .before .before .before .before .before .before .before .before .before .loop in
+          let g = setting (s .args .n) (s .args .unroll) in
+          let v = getD (s .args .given .now) 0 0 in
+          let vs = take (length (s .args .given .now) - 1) (drop 1 (s .args .given .now)) in
+          let more : l .left ≡ suc (l .left - 1) = omega (arith, c .before .before .before .before .before .before .before .before .before .loop-test .taken) in
+          let q = subst (λ (z : State). Says answered (noted.normalized g (s .args .place + 1) vs (s .args .base) b z) (c .before .before .before .before .before .before .normalize .result) (l .marks) (c .before .before .before .before .before .before .normalize .last .1 .1 .1 .1 .1 .1 .1 .0)) (put-span (s .args .t7) v (l .inv .1 .1 .0) refl) (c .before .before .before .before .before .before .normalize .ensures b h) in
+          rw (c .join .ensures) (leads-then (l .inv .1 .1 .1 b h) (given-laws.value-on g (s .args .place) (s .args .base) b (s .args .t7) v vs (l .left) (l .left - 1) more (l .x) (l .joined) q (c .before .before .enum-told4 .given .1))),
+    ),
+  ),
+)
 
 -- src/walk.rt:417:5
 normalize-good-requires : (t : ℕ) → normalize-lts.Need-good-requires (normalize-claims t) (normalize-at t) normalize.Post normalize-Inv-loop normalize-μ-loop
@@ -1700,13 +1778,13 @@ normalize-same-length-3 t c = c .before .before .loop .inv .0
 normalize-returns-5 : (t : ℕ) → normalize-lts.Need-returns-5 (normalize-claims t) (normalize-at t) normalize.Post normalize-Inv-loop normalize-μ-loop
 normalize-returns-5 t c =
     λ b h.
-        let s = c .before .before .before .before .before .before .before .before .before .before .before .before .before .before in
-        let l = c .before .before .loop in
-        let g = setting (s .args .n) (s .args .unroll) in
-        let v = getD (s .args .given .now) 0 0 in
-        let vs = take (length (s .args .given .now) - 1) (drop 1 (s .args .given .now)) in
-        let none : l .left ≡ 0 = omega (arith, c .before .loop-test .left) in
-        rw (c .good2 .ensures) (l .inv .1 .1 .1 b h .on _ _ (given-laws.no-value g (s .args .place) (s .args .base) b (s .args .t7) v vs (l .left) none (l .x) (l .joined) (l .marks)))
+    let s = c .before .before .before .before .before .before .before .before .before .before .before .before .before .before in
+    let l = c .before .before .loop in
+    let g = setting (s .args .n) (s .args .unroll) in
+    let v = getD (s .args .given .now) 0 0 in
+    let vs = take (length (s .args .given .now) - 1) (drop 1 (s .args .given .now)) in
+    let none : l .left ≡ 0 = omega (arith, c .before .loop-test .left) in
+    rw (c .good2 .ensures) (l .inv .1 .1 .1 b h .on _ _ (given-laws.no-value g (s .args .place) (s .args .base) b (s .args .t7) v vs (l .left) none (l .x) (l .joined) (l .marks)))
 
 -- src/walk.rt:165:9
 pass-event-end-requires : (t : ℕ) → pass-lts.Need-event-end-requires (pass-claims t) (pass-at t) pass.Post
@@ -1752,9 +1830,10 @@ pass-sides-requires : (t : ℕ) → pass-lts.Need-sides-requires (pass-claims t)
 pass-sides-requires t c κs =
     let s = c .before .before .before .before in
     let p = s .pre .1 .0 in
-    let k = loop-inside p (c .before .event-end .result) (c .before .event-end .ensures) in
-    (loop-event-is p (c .before .event-end .result) (c .before .event-end .ensures),
-      (s .pre .1 .1 .0, omega (arith, ap length (k .event-part), k .p-is, k .whole, s .pre .1 .1 .1 .1, s .good)))
+    let k = loop-inside p (c .before .event-end .result) (c .before .event-end .ensures) in (
+      loop-event-is p (c .before .event-end .result) (c .before .event-end .ensures),
+      (s .pre .1 .1 .0, omega (arith, ap length (k .event-part), k .p-is, k .whole, s .pre .1 .1 .1 .1, s .good)),
+    )
 
 -- src/walk.rt:168:29
 pass-enum-known-verdict : (t : ℕ) → pass-lts.Need-enum-known-verdict (pass-claims t) (pass-at t) pass.Post
@@ -1768,12 +1847,12 @@ pass-stopped-requires t c κs = tt
 pass-returns : (t : ℕ) → pass-lts.Need-returns (pass-claims t) (pass-at t) pass.Post
 pass-returns t c =
     λ u e b h.
-        let s = c .before .before .before .before .before .before .before .before .before in
-        let g = setting (s .args .n) (s .args .unroll) in
-        let k = loop-cut (s .args .words .now) u e b h (c .before .before .before .before .before .before .event-end .result) (c .before .before .before .before .before .before .event-end .ensures) in
-        let o = c .before .before .before .before .sides .ensures (s .args .unroll) e (k .event-part) in
-        let j = walks.pass-unsplit g (s .args .base) e b k (s .args .state) (c .before .before .before .before .sides .result) o (s .args .marks .now) (c .before .before .verdict .given .1) in
-        record { out = c .stopped .ensures ∙ j .out; marks = j .marks }
+    let s = c .before .before .before .before .before .before .before .before .before in
+    let g = setting (s .args .n) (s .args .unroll) in
+    let k = loop-cut (s .args .words .now) u e b h (c .before .before .before .before .before .before .event-end .result) (c .before .before .before .before .before .before .event-end .ensures) in
+    let o = c .before .before .before .before .sides .ensures (s .args .unroll) e (k .event-part) in
+    let j = walks.pass-unsplit g (s .args .base) e b k (s .args .state) (c .before .before .before .before .sides .result) o (s .args .marks .now) (c .before .before .verdict .given .1) in
+    record { out = c .stopped .ensures ∙ j .out; marks = j .marks }
 
 pass-enum-told : (t : ℕ) → pass-lts.Need-enum-told (pass-claims t) (pass-at t) pass.Post
 pass-enum-told t c = search needs
@@ -1839,10 +1918,13 @@ pass-list-requires : (t : ℕ) → pass-lts.Need-list-requires (pass-claims t) (
 pass-list-requires t c κs =
     let s = c .before .before .before .before .before .before .before .before .before .before .before .before .before .before .before in
     let p = s .pre .1 .0 in
-    let k = loop-inside p (c .before .before .before .before .before .before .before .before .before .before .before .before .event-end .result) (c .before .before .before .before .before .before .before .before .before .before .before .before .event-end .ensures) in
-    (omega (arith, ap length (k .body-part), k .some, k .whole, s .pre .0),
-      (loop-body-is p (c .before .before .before .before .before .before .before .before .before .before .before .before .event-end .result) (c .before .before .before .before .before .before .before .before .before .before .before .before .event-end .ensures),
-        (s .pre .1 .1 .0, (s .pre .1 .1 .1 .0, omega (arith, ap length (k .body-part), k .some, k .whole, s .pre .1 .1 .1 .1, c .before .before .before .before .mark .kept .0)))))
+    let k = loop-inside p (c .before .before .before .before .before .before .before .before .before .before .before .before .event-end .result) (c .before .before .before .before .before .before .before .before .before .before .before .before .event-end .ensures) in (
+      omega (arith, ap length (k .body-part), k .some, k .whole, s .pre .0),
+      (
+        loop-body-is p (c .before .before .before .before .before .before .before .before .before .before .before .before .event-end .result) (c .before .before .before .before .before .before .before .before .before .before .before .before .event-end .ensures),
+        (s .pre .1 .1 .0, (s .pre .1 .1 .1 .0, omega (arith, ap length (k .body-part), k .some, k .whole, s .pre .1 .1 .1 .1, c .before .before .before .before .mark .kept .0))),
+      ),
+    )
 
 -- src/walk.rt:176:29
 pass-enum-known-after : (t : ℕ) → pass-lts.Need-enum-known-after (pass-claims t) (pass-at t) pass.Post
@@ -1860,13 +1942,13 @@ pass-same-length t c = c .before .before .before .before .before .before .list .
 pass-returns-2 : (t : ℕ) → pass-lts.Need-returns-2 (pass-claims t) (pass-at t) pass.Post
 pass-returns-2 t c =
     λ u e b h.
-        let s = c .before .before .before .before .before .before .before .before .before .before .before .before .before .before .before .before .before .before .before .before .before .before in
-        let g = setting (s .args .n) (s .args .unroll) in
-        let k = loop-cut (s .args .words .now) u e b h (c .before .before .before .before .before .before .before .before .before .before .before .before .before .before .before .before .before .before .before .event-end .result) (c .before .before .before .before .before .before .before .before .before .before .before .before .before .before .before .before .before .before .before .event-end .ensures) in
-        let o = c .before .before .before .before .before .before .before .before .before .before .before .before .before .before .before .before .before .sides .ensures (s .args .unroll) e (k .event-part) in
-        let w = c .before .before .before .before .before .before .list .ensures b (k .body-part) in
-        let j = walks.pass-body-refused g (s .args .base) e b k (s .args .state) (c .before .before .before .before .before .before .before .before .before .before .before .before .before .before .before .before .before .sides .result) o (s .args .marks .now) (c .before .before .before .before .before .before .before .before .before .before .before .before .before .before .before .enum-told .given .1) (c .before .before .before .before .before .before .before .before .before .before .before .mark .ensures) w (c .before .before .after .given .1) in
-        record { out = c .stopped2 .ensures ∙ j .out; marks = j .marks }
+    let s = c .before .before .before .before .before .before .before .before .before .before .before .before .before .before .before .before .before .before .before .before .before .before in
+    let g = setting (s .args .n) (s .args .unroll) in
+    let k = loop-cut (s .args .words .now) u e b h (c .before .before .before .before .before .before .before .before .before .before .before .before .before .before .before .before .before .before .before .event-end .result) (c .before .before .before .before .before .before .before .before .before .before .before .before .before .before .before .before .before .before .before .event-end .ensures) in
+    let o = c .before .before .before .before .before .before .before .before .before .before .before .before .before .before .before .before .before .sides .ensures (s .args .unroll) e (k .event-part) in
+    let w = c .before .before .before .before .before .before .list .ensures b (k .body-part) in
+    let j = walks.pass-body-refused g (s .args .base) e b k (s .args .state) (c .before .before .before .before .before .before .before .before .before .before .before .before .before .before .before .before .before .sides .result) o (s .args .marks .now) (c .before .before .before .before .before .before .before .before .before .before .before .before .before .before .before .enum-told .given .1) (c .before .before .before .before .before .before .before .before .before .before .before .mark .ensures) w (c .before .before .after .given .1) in
+    record { out = c .stopped2 .ensures ∙ j .out; marks = j .marks }
 
 pass-enum-told-2 : (t : ℕ) → pass-lts.Need-enum-told-2 (pass-claims t) (pass-at t) pass.Post
 pass-enum-told-2 t c = search needs
@@ -1883,13 +1965,13 @@ pass-same-length-2 t c = c .before .before .before .before .before .before .list
 pass-returns-3 : (t : ℕ) → pass-lts.Need-returns-3 (pass-claims t) (pass-at t) pass.Post
 pass-returns-3 t c =
     λ u e b h.
-        let s = c .before .before .before .before .before .before .before .before .before .before .before .before .before .before .before .before .before .before .before .before .before .before in
-        let g = setting (s .args .n) (s .args .unroll) in
-        let k = loop-cut (s .args .words .now) u e b h (c .before .before .before .before .before .before .before .before .before .before .before .before .before .before .before .before .before .before .before .event-end .result) (c .before .before .before .before .before .before .before .before .before .before .before .before .before .before .before .before .before .before .before .event-end .ensures) in
-        let o = c .before .before .before .before .before .before .before .before .before .before .before .before .before .before .before .before .before .sides .ensures (s .args .unroll) e (k .event-part) in
-        let w = c .before .before .before .before .before .before .list .ensures b (k .body-part) in
-        let j = walks.pass-went g (s .args .base) e b k (s .args .state) (c .before .before .before .before .before .before .before .before .before .before .before .before .before .before .before .before .before .sides .result) o (s .args .marks .now) (c .before .before .before .before .before .before .before .before .before .before .before .before .before .before .before .enum-told .given .1) (c .before .before .before .before .before .before .before .before .before .before .before .mark .ensures) w (c .before .before .enum-told2 .given .1) in
-        record { out = c .went .ensures ∙ j .out; marks = j .marks }
+    let s = c .before .before .before .before .before .before .before .before .before .before .before .before .before .before .before .before .before .before .before .before .before .before in
+    let g = setting (s .args .n) (s .args .unroll) in
+    let k = loop-cut (s .args .words .now) u e b h (c .before .before .before .before .before .before .before .before .before .before .before .before .before .before .before .before .before .before .before .event-end .result) (c .before .before .before .before .before .before .before .before .before .before .before .before .before .before .before .before .before .before .before .event-end .ensures) in
+    let o = c .before .before .before .before .before .before .before .before .before .before .before .before .before .before .before .before .before .sides .ensures (s .args .unroll) e (k .event-part) in
+    let w = c .before .before .before .before .before .before .list .ensures b (k .body-part) in
+    let j = walks.pass-went g (s .args .base) e b k (s .args .state) (c .before .before .before .before .before .before .before .before .before .before .before .before .before .before .before .before .before .sides .result) o (s .args .marks .now) (c .before .before .before .before .before .before .before .before .before .before .before .before .before .before .before .enum-told .given .1) (c .before .before .before .before .before .before .before .before .before .before .before .mark .ensures) w (c .before .before .enum-told2 .given .1) in
+    record { out = c .went .ensures ∙ j .out; marks = j .marks }
 
 abbrev search-Inv-loop : search-lts.InvT-loop
 search-Inv-loop words base n unroll marks₀ s₀ i₀ marks s i =
@@ -1931,15 +2013,20 @@ search-loop-less t c = let ne = c .before .before .before .before .before .befor
 -- src/walk.rt:193:9
 search-loop-again : (t : ℕ) → search-lts.Need-loop-again (search-claims t) (search-at t) search′.Post search-Inv-loop search-μ-loop
 search-loop-again t c =
-    let ne = c .before .before .before .before .before .before .before .before .before .if1 .left in
-    (omega (arith, c .before .before .before .before .before .before .before .before .before .before .loop .inv .0), (c .before .before .before .before .before .before .before .pass .kept .1 .1 .1 .1 .1 .0 ∙ c .before .before .before .before .before .before .before .before .before .before .loop .inv .1 .0, λ u e b h.
-        let s = c .before .before .before .before .before .before .before .before .before .before .before .before .before in
-        let l = c .before .before .before .before .before .before .before .before .before .before .loop in
-        let g = setting (s .args .n) (s .args .unroll) in
-        let q = c .before .before .before .before .before .before .before .pass .ensures u e b h in
-        let ne = c .before .before .before .before .before .before .before .before .before .if1 .left in
-        let more : 100 - l .i ≡ suc (100 - (l .i + 1)) = omega (arith, l .inv .0) in
-        leads-then (l .inv .1 .1 u e b h) (turns-laws.search-on g (s .args .base) e b (100 - l .i) (100 - (l .i + 1)) more (l .s) q (l .i) (c .before .before .before .enum-told .given .1) (sym (c .before .same .ensures) ∙ c .if2 .left))))
+    let ne = c .before .before .before .before .before .before .before .before .before .if1 .left in (
+      omega (arith, c .before .before .before .before .before .before .before .before .before .before .loop .inv .0),
+      (
+        c .before .before .before .before .before .before .before .pass .kept .1 .1 .1 .1 .1 .0 ∙ c .before .before .before .before .before .before .before .before .before .before .loop .inv .1 .0,
+        λ u e b h.
+            let s = c .before .before .before .before .before .before .before .before .before .before .before .before .before in
+            let l = c .before .before .before .before .before .before .before .before .before .before .loop in
+            let g = setting (s .args .n) (s .args .unroll) in
+            let q = c .before .before .before .before .before .before .before .pass .ensures u e b h in
+            let ne = c .before .before .before .before .before .before .before .before .before .if1 .left in
+            let more : 100 - l .i ≡ suc (100 - (l .i + 1)) = omega (arith, l .inv .0) in
+            leads-then (l .inv .1 .1 u e b h) (turns-laws.search-on g (s .args .base) e b (100 - l .i) (100 - (l .i + 1)) more (l .s) q (l .i) (c .before .before .before .enum-told .given .1) (sym (c .before .same .ensures) ∙ c .if2 .left)),
+      ),
+    )
 
 -- src/walk.rt:184:1
 search-same-length : (t : ℕ) → search-lts.Need-same-length (search-claims t) (search-at t) search′.Post search-Inv-loop search-μ-loop
@@ -1949,11 +2036,11 @@ search-same-length t c = c .before .loop .inv .1 .0
 search-returns : (t : ℕ) → search-lts.Need-returns (search-claims t) (search-at t) search′.Post search-Inv-loop search-μ-loop
 search-returns t c =
     λ u e b h.
-        let s = c .before .before .before .before in
-        let l = c .before .loop in
-        let g = setting (s .args .n) (s .args .unroll) in
-        let none : 100 - l .i ≡ 0 = omega (arith, c .if1 .taken) in
-        l .inv .1 .1 u e b h .on _ _ (turns-laws.search-none g (s .args .base) e b (100 - l .i) none (l .i) (l .s) (l .marks))
+    let s = c .before .before .before .before in
+    let l = c .before .loop in
+    let g = setting (s .args .n) (s .args .unroll) in
+    let none : 100 - l .i ≡ 0 = omega (arith, c .if1 .taken) in
+    l .inv .1 .1 u e b h .on _ _ (turns-laws.search-none g (s .args .base) e b (100 - l .i) none (l .i) (l .s) (l .marks))
 
 -- src/walk.rt:184:1
 search-same-length-2 : (t : ℕ) → search-lts.Need-same-length-2 (search-claims t) (search-at t) search′.Post search-Inv-loop search-μ-loop
@@ -1963,13 +2050,13 @@ search-same-length-2 t c = c .before .before .before .before .before .pass .kept
 search-returns-2 : (t : ℕ) → search-lts.Need-returns-2 (search-claims t) (search-at t) search′.Post search-Inv-loop search-μ-loop
 search-returns-2 t c =
     λ u e b h.
-        let s = c .before .before .before .before .before .before .before .before .before .before .before in
-        let l = c .before .before .before .before .before .before .before .before .loop in
-        let g = setting (s .args .n) (s .args .unroll) in
-        let q = c .before .before .before .before .before .pass .ensures u e b h in
-        let ne = c .before .before .before .before .before .before .before .if1 .left in
-        let more : 100 - l .i ≡ suc (100 - (l .i + 1)) = omega (arith, l .inv .0) in
-        l .inv .1 .1 u e b h .on _ _ (turns-laws.search-refused g (s .args .base) e b (100 - l .i) (100 - (l .i + 1)) more (l .s) q (l .i) (c .before .verdict .given .1))
+    let s = c .before .before .before .before .before .before .before .before .before .before .before in
+    let l = c .before .before .before .before .before .before .before .before .loop in
+    let g = setting (s .args .n) (s .args .unroll) in
+    let q = c .before .before .before .before .before .pass .ensures u e b h in
+    let ne = c .before .before .before .before .before .before .before .if1 .left in
+    let more : 100 - l .i ≡ suc (100 - (l .i + 1)) = omega (arith, l .inv .0) in
+    l .inv .1 .1 u e b h .on _ _ (turns-laws.search-refused g (s .args .base) e b (100 - l .i) (100 - (l .i + 1)) more (l .s) q (l .i) (c .before .verdict .given .1))
 
 -- src/walk.rt:184:1
 search-same-length-3 : (t : ℕ) → search-lts.Need-same-length-3 (search-claims t) (search-at t) search′.Post search-Inv-loop search-μ-loop
@@ -1979,13 +2066,13 @@ search-same-length-3 t c = c .before .before .before .before .before .before .be
 search-returns-3 : (t : ℕ) → search-lts.Need-returns-3 (search-claims t) (search-at t) search′.Post search-Inv-loop search-μ-loop
 search-returns-3 t c =
     λ u e b h.
-        let s = c .before .before .before .before .before .before .before .before .before .before .before .before .before in
-        let l = c .before .before .before .before .before .before .before .before .before .before .loop in
-        let g = setting (s .args .n) (s .args .unroll) in
-        let q = c .before .before .before .before .before .before .before .pass .ensures u e b h in
-        let ne = c .before .before .before .before .before .before .before .before .before .if1 .left in
-        let more : 100 - l .i ≡ suc (100 - (l .i + 1)) = omega (arith, l .inv .0) in
-        l .inv .1 .1 u e b h .on _ _ (turns-laws.search-found g (s .args .base) e b (100 - l .i) (100 - (l .i + 1)) more (l .s) q (l .i) (c .before .before .before .enum-told .given .1) (sym (c .before .same .ensures) ∙ c .if2 .taken))
+    let s = c .before .before .before .before .before .before .before .before .before .before .before .before .before in
+    let l = c .before .before .before .before .before .before .before .before .before .before .loop in
+    let g = setting (s .args .n) (s .args .unroll) in
+    let q = c .before .before .before .before .before .before .before .pass .ensures u e b h in
+    let ne = c .before .before .before .before .before .before .before .before .before .if1 .left in
+    let more : 100 - l .i ≡ suc (100 - (l .i + 1)) = omega (arith, l .inv .0) in
+    l .inv .1 .1 u e b h .on _ _ (turns-laws.search-found g (s .args .base) e b (100 - l .i) (100 - (l .i + 1)) more (l .s) q (l .i) (c .before .before .before .enum-told .given .1) (sym (c .before .same .ensures) ∙ c .if2 .taken))
 
 -- src/walk.rt:288:9
 settle-growing-requires : (t : ℕ) → settle-lts.Need-growing-requires (settle-claims t) (settle-at t) settle.Post
@@ -2009,10 +2096,10 @@ settle-same-length t c = c .before .before .before .before .before .before .grow
 settle-returns : (t : ℕ) → settle-lts.Need-returns (settle-claims t) (settle-at t) settle.Post
 settle-returns t c =
     λ u e b h.
-        let s = c .before .before .before .before .before .before .before .before .before .before in
-        let g = setting (s .args .n) (s .args .unroll) in
-        let j = c .before .before .before .before .before .before .growing .ensures u e b h in
-        rw (c .not-settled .ensures) (turns-laws.joining-refused g (s .args .base) e b (s .args .state) j (c .before .before .joining .given .1))
+    let s = c .before .before .before .before .before .before .before .before .before .before in
+    let g = setting (s .args .n) (s .args .unroll) in
+    let j = c .before .before .before .before .before .before .growing .ensures u e b h in
+    rw (c .not-settled .ensures) (turns-laws.joining-refused g (s .args .base) e b (s .args .state) j (c .before .before .joining .given .1))
 
 settle-enum-told : (t : ℕ) → settle-lts.Need-enum-told (settle-claims t) (settle-at t) settle.Post
 settle-enum-told t c = search needs
@@ -2029,10 +2116,10 @@ settle-same-length-2 t c = c .before .before .before .before .before .before .be
 settle-returns-2 : (t : ℕ) → settle-lts.Need-returns-2 (settle-claims t) (settle-at t) settle.Post
 settle-returns-2 t c =
     λ u e b h.
-        let s = c .before .before .before .before .before .before .before .before .before .before .before in
-        let g = setting (s .args .n) (s .args .unroll) in
-        let j = c .before .before .before .before .before .before .before .growing .ensures u e b h in
-        rw (c .settled .ensures) (turns-laws.joining-settled g (s .args .base) e b (s .args .state) j (c .before .before .before .enum-told .given .1) (c .before .if1 .taken))
+    let s = c .before .before .before .before .before .before .before .before .before .before .before in
+    let g = setting (s .args .n) (s .args .unroll) in
+    let j = c .before .before .before .before .before .before .before .growing .ensures u e b h in
+    rw (c .settled .ensures) (turns-laws.joining-settled g (s .args .base) e b (s .args .state) j (c .before .before .before .enum-told .given .1) (c .before .if1 .taken))
 
 -- src/walk.rt:297:51
 settle-add-growing : (t : ℕ) → settle-lts.Need-add-growing (settle-claims t) (settle-at t) settle.Post
@@ -2064,12 +2151,12 @@ settle-same-length-3 t c = c .before .before .before .before .before .before .gr
 settle-returns-3 : (t : ℕ) → settle-lts.Need-returns-3 (settle-claims t) (settle-at t) settle.Post
 settle-returns-3 t c =
     λ u e b h.
-        let s = c .before .before .before .before .before .before .before .before .before .before .before .before .before .before .before .before .before .before in
-        let g = setting (s .args .n) (s .args .unroll) in
-        let j = c .before .before .before .before .before .before .before .before .before .before .before .before .before .before .growing .ensures u e b h in
-        let w = c .before .before .before .before .before .before .growing2 .ensures u e b h in
-        let on = turns-laws.joining-on g (s .args .base) e b (s .args .state) j (c .before .before .before .before .before .before .before .before .before .before .enum-told .given .1) (c .before .before .before .before .before .before .before .before .if1 .left) in
-        rw (c .not-settled2 .ensures) (on .on _ _ (turns-laws.widening-refused g (s .args .base) e b (c .before .before .before .before .before .before .before .before .before .before .before .before .before .before .growing .result .state) (c .before .before .before .before .before .before .before .before .before .before .before .before .before .before .growing .result .passes) w (c .before .before .widening .given .1)))
+    let s = c .before .before .before .before .before .before .before .before .before .before .before .before .before .before .before .before .before .before in
+    let g = setting (s .args .n) (s .args .unroll) in
+    let j = c .before .before .before .before .before .before .before .before .before .before .before .before .before .before .growing .ensures u e b h in
+    let w = c .before .before .before .before .before .before .growing2 .ensures u e b h in
+    let on = turns-laws.joining-on g (s .args .base) e b (s .args .state) j (c .before .before .before .before .before .before .before .before .before .before .enum-told .given .1) (c .before .before .before .before .before .before .before .before .if1 .left) in
+    rw (c .not-settled2 .ensures) (on .on _ _ (turns-laws.widening-refused g (s .args .base) e b (c .before .before .before .before .before .before .before .before .before .before .before .before .before .before .growing .result .state) (c .before .before .before .before .before .before .before .before .before .before .before .before .before .before .growing .result .passes) w (c .before .before .widening .given .1)))
 
 settle-enum-told-2 : (t : ℕ) → settle-lts.Need-enum-told-2 (settle-claims t) (settle-at t) settle.Post
 settle-enum-told-2 t c = search needs
@@ -2086,12 +2173,12 @@ settle-same-length-4 t c = c .before .before .before .before .before .before .gr
 settle-returns-4 : (t : ℕ) → settle-lts.Need-returns-4 (settle-claims t) (settle-at t) settle.Post
 settle-returns-4 t c =
     λ u e b h.
-        let s = c .before .before .before .before .before .before .before .before .before .before .before .before .before .before .before .before .before .before in
-        let g = setting (s .args .n) (s .args .unroll) in
-        let j = c .before .before .before .before .before .before .before .before .before .before .before .before .before .before .growing .ensures u e b h in
-        let w = c .before .before .before .before .before .before .growing2 .ensures u e b h in
-        let on = turns-laws.joining-on g (s .args .base) e b (s .args .state) j (c .before .before .before .before .before .before .before .before .before .before .enum-told .given .1) (c .before .before .before .before .before .before .before .before .if1 .left) in
-        rw (c .settled2 .ensures) (on .on _ _ (turns-laws.widening-on g (s .args .base) e b (c .before .before .before .before .before .before .before .before .before .before .before .before .before .before .growing .result .state) (c .before .before .before .before .before .before .before .before .before .before .before .before .before .before .growing .result .passes) w (c .before .before .enum-told2 .given .1)))
+    let s = c .before .before .before .before .before .before .before .before .before .before .before .before .before .before .before .before .before .before in
+    let g = setting (s .args .n) (s .args .unroll) in
+    let j = c .before .before .before .before .before .before .before .before .before .before .before .before .before .before .growing .ensures u e b h in
+    let w = c .before .before .before .before .before .before .growing2 .ensures u e b h in
+    let on = turns-laws.joining-on g (s .args .base) e b (s .args .state) j (c .before .before .before .before .before .before .before .before .before .before .enum-told .given .1) (c .before .before .before .before .before .before .before .before .if1 .left) in
+    rw (c .settled2 .ensures) (on .on _ _ (turns-laws.widening-on g (s .args .base) e b (c .before .before .before .before .before .before .before .before .before .before .before .before .before .before .growing .result .state) (c .before .before .before .before .before .before .before .before .before .before .before .before .before .before .growing .result .passes) w (c .before .before .enum-told2 .given .1)))
 
 -- src/walk.rt:101:16
 statement-shared-slice-read-kind : (t : ℕ) → statement-lts.Need-shared-slice-read-kind (statement-claims t) (statement-at t) statement′.Post
@@ -2136,11 +2223,11 @@ statement-same-length-2 t c = c .before .before .before .before .before .before 
 statement-returns-2 : (t : ℕ) → statement-lts.Need-returns-2 (statement-claims t) (statement-at t) statement′.Post
 statement-returns-2 t c =
     λ t h.
-        let s = c .before .before .before .before .before .before .before .before .before .before .before .before .before in
-        let g = setting (s .args .n) (s .args .unroll) in
-        let x = while-here t (begins-whole h) (c .before .before .before .before .before .before .before .before .if2 .taken) in
-        let q = c .before .before .before .before .before .before .looped .ensures (x .unroll) (x .event) (x .body) (h ∙ ap code.statement (x .same)) in
-        rw (c .refused .ensures, x .same) (turns-laws.while-refused g (s .args .base) (x .event) (x .body) (x .unroll) (s .args .state) q (c .before .before .verdict .given .1))
+    let s = c .before .before .before .before .before .before .before .before .before .before .before .before .before in
+    let g = setting (s .args .n) (s .args .unroll) in
+    let x = while-here t (begins-whole h) (c .before .before .before .before .before .before .before .before .if2 .taken) in
+    let q = c .before .before .before .before .before .before .looped .ensures (x .unroll) (x .event) (x .body) (h ∙ ap code.statement (x .same)) in
+    rw (c .refused .ensures, x .same) (turns-laws.while-refused g (s .args .base) (x .event) (x .body) (x .unroll) (s .args .state) q (c .before .before .verdict .given .1))
 
 statement-enum-told : (t : ℕ) → statement-lts.Need-enum-told (statement-claims t) (statement-at t) statement′.Post
 statement-enum-told t c = search needs
@@ -2157,11 +2244,11 @@ statement-same-length-3 t c = c .before .before .before .before .before .before 
 statement-returns-3 : (t : ℕ) → statement-lts.Need-returns-3 (statement-claims t) (statement-at t) statement′.Post
 statement-returns-3 t c =
     λ t h.
-        let s = c .before .before .before .before .before .before .before .before .before .before .before .before .before in
-        let g = setting (s .args .n) (s .args .unroll) in
-        let x = while-here t (begins-whole h) (c .before .before .before .before .before .before .before .before .if2 .taken) in
-        let q = c .before .before .before .before .before .before .looped .ensures (x .unroll) (x .event) (x .body) (h ∙ ap code.statement (x .same)) in
-        rw (c .good2 .ensures, x .same) (turns-laws.while-on g (s .args .base) (x .event) (x .body) (x .unroll) (s .args .state) q (c .before .before .enum-told .given .1))
+    let s = c .before .before .before .before .before .before .before .before .before .before .before .before .before in
+    let g = setting (s .args .n) (s .args .unroll) in
+    let x = while-here t (begins-whole h) (c .before .before .before .before .before .before .before .before .if2 .taken) in
+    let q = c .before .before .before .before .before .before .looped .ensures (x .unroll) (x .event) (x .body) (h ∙ ap code.statement (x .same)) in
+    rw (c .good2 .ensures, x .same) (turns-laws.while-on g (s .args .base) (x .event) (x .body) (x .unroll) (s .args .state) q (c .before .before .enum-told .given .1))
 
 -- src/walk.rt:115:20
 statement-shared-slice-read-body : (t : ℕ) → statement-lts.Need-shared-slice-read-body (statement-claims t) (statement-at t) statement′.Post
@@ -2267,12 +2354,22 @@ statement-normalize-requires t c κs =
     let p = s .pre .1 .0 in
     let at : getD (s .args .words .now) 1 0 + 2 ≡ getD (s .args .words .now) 1 0 + 2 = refl in
     let k = normalize-cut (s .args .words .now) (p .tree) (p .is) (c .before .before .before .before .if3 .taken) (getD (s .args .words .now) 1 0 + 2) at in
-    let w = normalize-bounds (k .same) (p .within) in
-    (omega (arith, ap length (k .given-part), ap length (k .body-part), k .p-is, k .whole, s .pre .0),
-      (record { each = subst (λ (l : List ℕ). Each (λ v. v < s .args .n) l) (sym (k .given-part)) (w .1) },
-        (record { tree = k .body; is = k .body-part; within = w .2 },
-          (s .pre .1 .1 .1 .0, (s .pre .1 .1 .1 .1 .0,
-            (omega (arith, ap length (k .given-part), k .p-is, k .whole, s .pre .1 .1 .1 .1 .1), omega (arith, ap length (k .body-part), k .p-is, k .whole, s .pre .1 .1 .1 .1 .1)))))))
+    let w = normalize-bounds (k .same) (p .within) in (
+      omega (arith, ap length (k .given-part), ap length (k .body-part), k .p-is, k .whole, s .pre .0),
+      (
+        record { each = subst (λ (l : List ℕ). Each (λ v. v < s .args .n) l) (sym (k .given-part)) (w .1) },
+        (
+          record { tree = k .body; is = k .body-part; within = w .2 },
+          (
+            s .pre .1 .1 .1 .0,
+            (
+              s .pre .1 .1 .1 .1 .0,
+              (omega (arith, ap length (k .given-part), k .p-is, k .whole, s .pre .1 .1 .1 .1 .1), omega (arith, ap length (k .body-part), k .p-is, k .whole, s .pre .1 .1 .1 .1 .1)),
+            ),
+          ),
+        ),
+      ),
+    )
 
 -- src/walk.rt:116:9
 statement-same-length-4 : (t : ℕ) → statement-lts.Need-same-length-4 (statement-claims t) (statement-at t) statement′.Post
@@ -2282,11 +2379,11 @@ statement-same-length-4 t c = c .before .before .normalize .kept .1 .1 .1 .1 .1 
 statement-returns-4 : (t : ℕ) → statement-lts.Need-returns-4 (statement-claims t) (statement-at t) statement′.Post
 statement-returns-4 t c =
     λ t h.
-        let s = c .before .before .before .before .before .before .before .before .before .before .before .before .before in
-        let g = setting (s .args .n) (s .args .unroll) in
-        let k = normalize-cut (s .args .words .now) t h (c .before .before .before .before .before .before .before .if3 .taken) (getD (s .args .words .now) 1 0 + 2) refl in
-        let q = c .before .before .normalize .ensures (k .body) (k .body-part) in
-        walks.normalize-whole g (s .args .base) k (s .args .state) q
+    let s = c .before .before .before .before .before .before .before .before .before .before .before .before .before in
+    let g = setting (s .args .n) (s .args .unroll) in
+    let k = normalize-cut (s .args .words .now) t h (c .before .before .before .before .before .before .before .if3 .taken) (getD (s .args .words .now) 1 0 + 2) refl in
+    let q = c .before .before .normalize .ensures (k .body) (k .body-part) in
+    walks.normalize-whole g (s .args .base) k (s .args .state) q
 
 -- src/walk.rt:118:9
 statement-empty-requires : (t : ℕ) → statement-lts.Need-empty-requires (statement-claims t) (statement-at t) statement′.Post
@@ -2300,10 +2397,10 @@ statement-good-requires-2 t c κs = tt
 statement-returns-5 : (t : ℕ) → statement-lts.Need-returns-5 (statement-claims t) (statement-at t) statement′.Post
 statement-returns-5 t c =
     λ t h.
-        let s = c .before .before .before .before .before .before .before .before in
-        let g = setting (s .args .n) (s .args .unroll) in
-        let x = walks.only-fail t h (s .pre .1 .1 .0) (c .before .before .before .before .if1 .left) (c .before .before .before .if2 .left) (c .before .before .if3 .left) in
-        rw (c .good3 .ensures, c .before .empty .ensures, x) (steps.says-fail g (s .args .base) (s .args .state) (s .args .marks .now))
+    let s = c .before .before .before .before .before .before .before .before in
+    let g = setting (s .args .n) (s .args .unroll) in
+    let x = walks.only-fail t h (s .pre .1 .1 .0) (c .before .before .before .before .if1 .left) (c .before .before .before .if2 .left) (c .before .before .if3 .left) in
+    rw (c .good3 .ensures, c .before .empty .ensures, x) (steps.says-fail g (s .args .base) (s .args .state) (s .args .marks .now))
 
 abbrev unrolled-Inv-loop : unrolled-lts.InvT-loop
 unrolled-Inv-loop words base n unroll turns marks₀ s₀ exits₀ left₀ marks s exits left =
@@ -2339,12 +2436,12 @@ unrolled-same-length t c = c .before .before .before .before .pass .kept .1 .1 .
 unrolled-returns : (t : ℕ) → unrolled-lts.Need-returns (unrolled-claims t) (unrolled-at t) unrolled.Post unrolled-Inv-loop unrolled-μ-loop
 unrolled-returns t c =
     λ u e b h.
-        let s = c .before .before .before .before .before .before .before .before .before .before .before in
-        let l = c .before .before .before .before .before .before .before .loop in
-        let g = setting (s .args .n) (s .args .unroll) in
-        let q = c .before .before .before .before .pass .ensures u e b h in
-        let more : l .left ≡ suc (l .left - 1) = omega (arith, c .before .before .before .before .before .before .loop-test .taken) in
-        rw (← c .before .before .before .before .before .before .before .before .empty .ensures) (l .inv .1 .1 u e b h .on _ _ (turns-laws.unrolled-refused g (s .args .base) e b (l .left) (l .left - 1) more (l .s) q (l .exits) (c .enum-told .given .1)))
+    let s = c .before .before .before .before .before .before .before .before .before .before .before in
+    let l = c .before .before .before .before .before .before .before .loop in
+    let g = setting (s .args .n) (s .args .unroll) in
+    let q = c .before .before .before .before .pass .ensures u e b h in
+    let more : l .left ≡ suc (l .left - 1) = omega (arith, c .before .before .before .before .before .before .loop-test .taken) in
+    rw (← c .before .before .before .before .before .before .before .before .empty .ensures) (l .inv .1 .1 u e b h .on _ _ (turns-laws.unrolled-refused g (s .args .base) e b (l .left) (l .left - 1) more (l .s) q (l .exits) (c .enum-told .given .1)))
 
 unrolled-enum-told-2 : (t : ℕ) → unrolled-lts.Need-enum-told-2 (unrolled-claims t) (unrolled-at t) unrolled.Post unrolled-Inv-loop unrolled-μ-loop
 unrolled-enum-told-2 t c = search needs
@@ -2363,14 +2460,19 @@ unrolled-loop-less t c = omega (arith, c .before .before .before .before .before
 
 -- src/walk.rt:231:5
 unrolled-loop-again : (t : ℕ) → unrolled-lts.Need-loop-again (unrolled-claims t) (unrolled-at t) unrolled.Post unrolled-Inv-loop unrolled-μ-loop
-unrolled-loop-again t c =
-    (omega (arith, c .before .before .before .before .before .before .before .before .before .before .loop .inv .0), (c .before .before .before .before .before .before .before .pass .kept .1 .1 .1 .1 .1 .0 ∙ c .before .before .before .before .before .before .before .before .before .before .loop .inv .1 .0, λ u e b h.
+unrolled-loop-again t c = (
+  omega (arith, c .before .before .before .before .before .before .before .before .before .before .loop .inv .0),
+  (
+    c .before .before .before .before .before .before .before .pass .kept .1 .1 .1 .1 .1 .0 ∙ c .before .before .before .before .before .before .before .before .before .before .loop .inv .1 .0,
+    λ u e b h.
         let s = c .before .before .before .before .before .before .before .before .before .before .before .before .before .before in
         let l = c .before .before .before .before .before .before .before .before .before .before .loop in
         let g = setting (s .args .n) (s .args .unroll) in
         let q = c .before .before .before .before .before .before .before .pass .ensures u e b h in
         let more : l .left ≡ suc (l .left - 1) = omega (arith, c .before .before .before .before .before .before .before .before .before .loop-test .taken) in
-        rw (c .before .join .ensures) (leads-then (l .inv .1 .1 u e b h) (turns-laws.unrolled-on g (s .args .base) e b (l .left) (l .left - 1) more (l .s) q (l .exits) (c .before .before .before .enum-told2 .given .1)))))
+        rw (c .before .join .ensures) (leads-then (l .inv .1 .1 u e b h) (turns-laws.unrolled-on g (s .args .base) e b (l .left) (l .left - 1) more (l .s) q (l .exits) (c .before .before .before .enum-told2 .given .1))),
+  ),
+)
 
 -- src/walk.rt:242:5
 unrolled-went-requires : (t : ℕ) → unrolled-lts.Need-went-requires (unrolled-claims t) (unrolled-at t) unrolled.Post unrolled-Inv-loop unrolled-μ-loop
@@ -2384,12 +2486,12 @@ unrolled-same-length-2 t c = c .before .before .loop .inv .1 .0
 unrolled-returns-2 : (t : ℕ) → unrolled-lts.Need-returns-2 (unrolled-claims t) (unrolled-at t) unrolled.Post unrolled-Inv-loop unrolled-μ-loop
 unrolled-returns-2 t c =
     λ u e b h.
-        let s = c .before .before .before .before .before .before in
-        let l = c .before .before .loop in
-        let g = setting (s .args .n) (s .args .unroll) in
-        let none : l .left ≡ 0 = omega (arith, c .before .loop-test .left) in
-        let z = turns-laws.unrolled-none g (s .args .base) e b (l .left) none (record { next = l .s; exit = l .exits }) (l .marks) in
-        rw (← c .before .before .before .empty .ensures, c .went .ensures) (l .inv .1 .1 u e b h .on _ _ z)
+    let s = c .before .before .before .before .before .before in
+    let l = c .before .before .loop in
+    let g = setting (s .args .n) (s .args .unroll) in
+    let none : l .left ≡ 0 = omega (arith, c .before .loop-test .left) in
+    let z = turns-laws.unrolled-none g (s .args .base) e b (l .left) none (record { next = l .s; exit = l .exits }) (l .marks) in
+    rw (← c .before .before .before .empty .ensures, c .went .ensures) (l .inv .1 .1 u e b h .on _ _ z)
 
 pub +branch+growing+list+looped+normalize+pass+search+settle+statement+unrolled-spec :
     {M : Type 1} → statement M

@@ -130,8 +130,7 @@ intersection-sides-requires t c κs =
     let s = c .before .before .before .before .before .before .before in
     let p = s .pre .1 .0 in
     let w = c .before .before .before .loop .inv .1 (p .tree) (p .is) in
-    let k = turn w _ (c .before .before .loop-test .taken) (c .before .event-end .ensures) in
-    (
+    let k = turn w _ (c .before .before .loop-test .taken) (c .before .event-end .ensures) in (
       omega (arith, ap length (k .part), k .end-is, k .fits, c .before .before .before .loop .inv .0, s .pre .0),
       (
         record { tree = k .next .head; is = k .part; within = next-event-bounds (k .next .same) (w .within (p .within)) .0 },
@@ -147,9 +146,9 @@ intersection-enum-told t c = search needs
 intersection-returns : (t : ℕ) → intersection-lts.Need-returns (intersection-claims t) (intersection-at t) intersection.Post intersection-Inv-loop intersection-μ-loop
 intersection-returns t c =
     λ u es h.
-        let w = c .before .before .before .before .before .before .loop .inv .1 es h in
-        let k = turn w _ (c .before .before .before .before .before .loop-test .taken) (c .before .before .before .before .event-end .ensures) in
-        going-refused w k (λ v. c .before .before .sides .ensures v (k .next .head) (k .part)) u (c .enum-told .given .1)
+    let w = c .before .before .before .before .before .before .loop .inv .1 es h in
+    let k = turn w _ (c .before .before .before .before .before .loop-test .taken) (c .before .before .before .before .event-end .ensures) in
+    going-refused w k (λ v. c .before .before .sides .ensures v (k .next .head) (k .part)) u (c .enum-told .given .1)
 
 intersection-enum-told-2 : (t : ℕ) → intersection-lts.Need-enum-told-2 (intersection-claims t) (intersection-at t) intersection.Post intersection-Inv-loop intersection-μ-loop
 intersection-enum-told-2 t c = search needs
@@ -170,8 +169,7 @@ intersection-loop-less t c = omega arith
 intersection-loop-again : (t : ℕ) → intersection-lts.Need-loop-again (intersection-claims t) (intersection-at t) intersection.Post intersection-Inv-loop intersection-μ-loop
 intersection-loop-again t c =
     let p = c .before .before .before .before .before .before .before .before .before .before .before .before .before .pre .1 .0 in
-    let k = turn (c .before .before .before .before .before .before .before .before .before .loop .inv .1 (p .tree) (p .is)) _ (c .before .before .before .before .before .before .before .before .loop-test .taken) (c .before .before .before .before .before .before .before .event-end .ensures) in
-    (
+    let k = turn (c .before .before .before .before .before .before .before .before .before .loop .inv .1 (p .tree) (p .is)) _ (c .before .before .before .before .before .before .before .before .loop-test .taken) (c .before .before .before .before .before .before .before .event-end .ensures) in (
       omega (arith, k .after),
       λ es h.
           let w = c .before .before .before .before .before .before .before .before .before .loop .inv .1 es h in
@@ -223,10 +221,10 @@ sides-cut-requires t c κs =
 sides-returns : (t : ℕ) → sides-lts.Need-returns (sides-claims t) (sides-at t) sides.Post
 sides-returns t c =
     λ u e h.
-        let s = c .before .before .before .before .before .before in
-        let x = set-here e (begins-whole h) (c .before .before .before .if1 .taken) in
-        let f = part-is (length (s .args .words .now) - 3) (x .values-are) (omega (arith, ap length h, x .size)) in
-        c .cut .ensures ∙ rw (f, x .var-is) (ap sided (sym (event-set _ _ _ (x .same))))
+    let s = c .before .before .before .before .before .before in
+    let x = set-here e (begins-whole h) (c .before .before .before .if1 .taken) in
+    let f = part-is (length (s .args .words .now) - 3) (x .values-are) (omega (arith, ap length h, x .size)) in
+    c .cut .ensures ∙ rw (f, x .var-is) (ap sided (sym (event-set _ _ _ (x .same))))
 
 -- src/event.rt:72:27
 sides-sub-sides : (t : ℕ) → sides-lts.Need-sub-sides (sides-claims t) (sides-at t) sides.Post
@@ -257,8 +255,7 @@ sides-sides-requires t c κs =
     let s = c .before .before .before .before .before in
     let p = s .pre .1 .0 in
     let x = complement-here (p .tree) (begins-whole (p .is)) (c .before .if2 .taken) in
-    let e = part-is (length (s .args .words .now) - 1) (x .event-is) (omega (arith, ap length (p .is), x .size)) in
-    (
+    let e = part-is (length (s .args .words .now) - 1) (x .event-is) (omega (arith, ap length (p .is), x .size)) in (
       omega (arith, ap length e, ap length (p .is), x .size, s .pre .0),
       (
         record { tree = x .event; is = e; within = complement-bounds (x .same) (p .within) },
@@ -270,9 +267,9 @@ sides-sides-requires t c κs =
 sides-returns-2 : (t : ℕ) → sides-lts.Need-returns-2 (sides-claims t) (sides-at t) sides.Post
 sides-returns-2 t c =
     λ u e h.
-        let s = c .before .before .before .before .before .before .before .before in
-        let x = complement-here e (begins-whole h) (c .before .before .before .before .if2 .taken) in
-        event-complement _ _ _ (x .same) (c .before .before .sides .ensures u (x .event) (part-is (length (s .args .words .now) - 1) (x .event-is) (omega (arith, ap length h, x .size))))
+    let s = c .before .before .before .before .before .before .before .before in
+    let x = complement-here e (begins-whole h) (c .before .before .before .before .if2 .taken) in
+    event-complement _ _ _ (x .same) (c .before .before .sides .ensures u (x .event) (part-is (length (s .args .words .now) - 1) (x .event-is) (omega (arith, ap length h, x .size))))
 
 -- src/event.rt:79:29
 sides-sub-intersection : (t : ℕ) → sides-lts.Need-sub-intersection (sides-claims t) (sides-at t) sides.Post
@@ -303,8 +300,7 @@ sides-intersection-requires t c κs =
     let s = c .before .before .before .before .before .before in
     let p = s .pre .1 .0 in
     let x = intersection-here (p .tree) (begins-whole (p .is)) (c .before .if3 .taken) in
-    let e = part-is (length (s .args .words .now) - 1) (x .events-are) (omega (arith, ap length (p .is), x .size)) in
-    (
+    let e = part-is (length (s .args .words .now) - 1) (x .events-are) (omega (arith, ap length (p .is), x .size)) in (
       omega (arith, ap length e, ap length (p .is), x .size, s .pre .0),
       (
         record { tree = x .events; is = e; within = intersection-bounds (x .same) (p .within) },
@@ -316,10 +312,10 @@ sides-intersection-requires t c κs =
 sides-returns-3 : (t : ℕ) → sides-lts.Need-returns-3 (sides-claims t) (sides-at t) sides.Post
 sides-returns-3 t c =
     λ u e h.
-        let s = c .before .before .before .before .before .before .before in
-        let x = intersection-here e (begins-whole h) (c .before .before .if3 .taken) in
-        let f = part-is (length (s .args .words .now) - 1) (x .events-are) (omega (arith, ap length h, x .size)) in
-        c .intersection .ensures u (x .events) f ∙ ap sided (sym (event-intersection _ _ _ (x .same)))
+    let s = c .before .before .before .before .before .before .before in
+    let x = intersection-here e (begins-whole h) (c .before .before .if3 .taken) in
+    let f = part-is (length (s .args .words .now) - 1) (x .events-are) (omega (arith, ap length h, x .size)) in
+    c .intersection .ensures u (x .events) f ∙ ap sided (sym (event-intersection _ _ _ (x .same)))
 
 -- src/event.rt:60:1
 sides-returns-4 : (t : ℕ) → sides-lts.Need-returns-4 (sides-claims t) (sides-at t) sides.Post

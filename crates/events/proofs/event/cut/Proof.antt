@@ -128,14 +128,14 @@ returns-2 : tie.Need-returns-2
 returns-2 c =
     let start = c .before .before .before .before .before .before .before .before .before .before .before .before in
     cut-both (start .args .at) (start .args .t4) (start .args .variable) (start .args .values .now) (removed-is (c .before .before .before .before .before .before .before .before) ∙ c .before .before .before .before .before .before .removed .given .1) (yes-is (c .before .before .before))
-        (c .empty3 .ensures ∙ put-none (start .args .t4) (start .args .variable) (c .before .before .before .before .before .before .before .before .before .before .if1 .taken) (c .before .enum-told4 .given .1))
+    (c .empty3 .ensures ∙ put-none (start .args .t4) (start .args .variable) (c .before .before .before .before .before .before .before .before .before .before .if1 .taken) (c .before .enum-told4 .given .1))
 
 -- src/event.rt:22:1
 returns-3 : tie.Need-returns-3
 returns-3 c =
     let start = c .before .before .before .before .before .before .before .before .before .before .before in
     cut-both (start .args .at) (start .args .t4) (start .args .variable) (start .args .values .now) (removed-is (c .before .before .before .before .before .before .before) ∙ c .before .before .before .before .before .removed .given .1) (yes-is (c .before .before))
-        (put-span (start .args .t4) (start .args .variable) (c .before .before .before .before .before .before .before .before .before .if1 .taken) (c .enum-told5 .given .1))
+    (put-span (start .args .t4) (start .args .variable) (c .before .before .before .before .before .before .before .before .before .if1 .taken) (c .enum-told5 .given .1))
 
 -- src/event.rt:22:1
 returns-4 : tie.Need-returns-4
