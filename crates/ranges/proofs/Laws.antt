@@ -13,7 +13,9 @@ pub use Rattle.ranges.proofs.Holding.{holds-filled, point-holds, around
 pub use Rattle.ranges.proofs.Holding.{sum-holds, times-holds, less-holds, retain-holds}
 -- an answer's start is at most its end
 pub use Rattle.ranges.proofs.Proper.{Proper, Proper-bounded, join-proper, sum-proper, times-proper, less-proper, retain-proper, remove-proper, widen-proper}
--- removal
+-- removal in words, and which values it leaves
 pub use Rattle.ranges.proofs.Removed.{removed, removed-only, remove-over, remove-holds}
+-- retaining is the smallest range around the values inside; the order and the repeats of a set do not matter
+pub use Rattle.ranges.proofs.Alike.{kept, retain-above, retain-least, Alike, retain-alike, remove-alike}
 -- two tests that are true
 pub use Rattle.ranges.proofs.Lattice.{both, left-of, right-of}
