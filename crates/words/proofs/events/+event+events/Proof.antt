@@ -90,31 +90,41 @@ event-returns-3 : (t : ℕ) → event-lts.Need-returns-3 (event-claims t) (event
 unfolding reader.by-kind
 event-returns-3 t c =
     let a = c .before .before .before .before .before .before .before .before .args in
-    event-kind _ _ (a .deep) _ (c .before .before .before .before .before .before .word .ensures) (a .deep - 1) (omega (arith, c .before .before .if1 .left)) (c .before .before .before .before .first .given .1) 1 (c .before .match2 .keys1) (c .set .ensures)
+    event-kind _ _ (a .deep) _ (c .before .before .before .before .before .before .word .ensures) (a .deep - 1) (omega (arith, c .before .before .if1 .left)) (c .before .before .before .before .first .given .1)
+    1 (c .before .match2 .keys1)
+    (c .set .ensures)
 
 event-returns-4 : (t : ℕ) → event-lts.Need-returns-4 (event-claims t) (event-at t) event.Post
 unfolding reader.by-kind
 event-returns-4 t c =
     let a = c .before .before .before .before .before .before .before .before .args in
-    event-kind _ _ (a .deep) _ (c .before .before .before .before .before .before .word .ensures) (a .deep - 1) (omega (arith, c .before .before .if1 .left)) (c .before .before .before .before .first .given .1) 2 (c .before .match2 .keys2) (c .comparison .ensures)
+    event-kind _ _ (a .deep) _ (c .before .before .before .before .before .before .word .ensures) (a .deep - 1) (omega (arith, c .before .before .if1 .left)) (c .before .before .before .before .first .given .1)
+    2 (c .before .match2 .keys2)
+    (c .comparison .ensures)
 
 event-returns-5 : (t : ℕ) → event-lts.Need-returns-5 (event-claims t) (event-at t) event.Post
 unfolding reader.by-kind
 event-returns-5 t c =
     let a = c .before .before .before .before .before .before .before .before .args in
-    event-kind _ _ (a .deep) _ (c .before .before .before .before .before .before .word .ensures) (a .deep - 1) (omega (arith, c .before .before .if1 .left)) (c .before .before .before .before .first .given .1) 3 (c .before .match2 .keys3) (c .datum .ensures)
+    event-kind _ _ (a .deep) _ (c .before .before .before .before .before .before .word .ensures) (a .deep - 1) (omega (arith, c .before .before .if1 .left)) (c .before .before .before .before .first .given .1)
+    3 (c .before .match2 .keys3)
+    (c .datum .ensures)
 
 event-returns-6 : (t : ℕ) → event-lts.Need-returns-6 (event-claims t) (event-at t) event.Post
 unfolding reader.by-kind used-event
 event-returns-6 t c =
     let a = c .before .before .before .before .before .before .before .before .args in
-    event-kind _ _ (a .deep) _ (c .before .before .before .before .before .before .word .ensures) (a .deep - 1) (omega (arith, c .before .before .if1 .left)) (c .before .before .before .before .first .given .1) 4 (c .before .match2 .keys4) (last _ _ _ _ (c .event .ensures) (λ _. refl))
+    event-kind _ _ (a .deep) _ (c .before .before .before .before .before .before .word .ensures) (a .deep - 1) (omega (arith, c .before .before .if1 .left)) (c .before .before .before .before .first .given .1)
+    4 (c .before .match2 .keys4)
+    (last _ _ _ _ (c .event .ensures) (λ _. refl))
 
 event-returns-7 : (t : ℕ) → event-lts.Need-returns-7 (event-claims t) (event-at t) event.Post
 unfolding reader.by-kind used-event
 event-returns-7 t c =
     let a = c .before .before .before .before .before .before .before .before .args in
-    event-kind _ _ (a .deep) _ (c .before .before .before .before .before .before .word .ensures) (a .deep - 1) (omega (arith, c .before .before .if1 .left)) (c .before .before .before .before .first .given .1) 5 (c .before .match2 .keys5) (last _ _ _ _ (c .events .ensures) (λ _. refl))
+    event-kind _ _ (a .deep) _ (c .before .before .before .before .before .before .word .ensures) (a .deep - 1) (omega (arith, c .before .before .if1 .left)) (c .before .before .before .before .first .given .1)
+    5 (c .before .match2 .keys5)
+    (last _ _ _ _ (c .events .ensures) (λ _. refl))
 
 event-returns-8 : (t : ℕ) → event-lts.Need-returns-8 (event-claims t) (event-at t) event.Post
 unfolding Other
@@ -155,7 +165,10 @@ events-enum-told-2 t c = search needs
 
 events-returns-2 : (t : ℕ) → events-lts.Need-returns-2 (events-claims t) (events-at t) events.Post events-Inv-loop events-μ-loop
 unfolding reader.events
-events-returns-2 t c = on-word _ _ _ (c .before .before .before .before .before .before .before .before .word .ensures) (c .before .before .before .before .before .before .size .given .1) (raised-off _ (many-off _ _ _ _ _ _ _ (c .before .before .before .loop-test .taken) (c .before .before .event .ensures) (c .enum-told2 .given .1)) (c .enum-told2 .given .1) ∙ sym (c .before .before .before .before .loop .inv))
+events-returns-2 t c =
+    on-word _ _ _ (c .before .before .before .before .before .before .before .before .word .ensures) (c .before .before .before .before .before .before .size .given .1)
+    (raised-off _ (many-off _ _ _ _ _ _ _ (c .before .before .before .loop-test .taken) (c .before .before .event .ensures) (c .enum-told2 .given .1)) (c .enum-told2 .given .1)
+    ∙ sym (c .before .before .before .before .loop .inv))
 
 events-higher-requires : (t : ℕ) → events-lts.Need-higher-requires (events-claims t) (events-at t) events.Post events-Inv-loop events-μ-loop
 events-higher-requires t c κs = search needs
@@ -168,11 +181,17 @@ events-loop-less t c = omega (arith, c .before .before .before .before .before .
 
 events-loop-again : (t : ℕ) → events-lts.Need-loop-again (events-claims t) (events-at t) events.Post events-Inv-loop events-μ-loop
 unfolding used-event
-events-loop-again t c = rw (c .higher .ensures) (c .before .before .before .before .before .before .loop .inv ∙ rises _ _ _ _ _ (λ _ _. refl) _ _ _ (c .before .before .before .before .before .loop-test .taken) (c .before .before .before .before .event .ensures) (c .before .before .one .given .1))
+events-loop-again t c =
+    rw (c .higher .ensures)
+    (c .before .before .before .before .before .before .loop .inv
+    ∙ rises _ _ _ _ _ (λ _ _. refl) _ _ _ (c .before .before .before .before .before .loop-test .taken) (c .before .before .before .before .event .ensures) (c .before .before .one .given .1))
 
 events-returns-3 : (t : ℕ) → events-lts.Need-returns-3 (events-claims t) (events-at t) events.Post events-Inv-loop events-μ-loop
 unfolding reader.events used-event
-events-returns-3 t c = on-word _ _ _ (c .before .before .before .before .before .word .ensures) (c .before .before .before .size .given .1) (rises-none _ _ _ _ _ _ _ refl (c .loop-test .left) ∙ sym (c .before .loop .inv))
+events-returns-3 t c =
+    on-word _ _ _ (c .before .before .before .before .before .word .ensures) (c .before .before .before .size .given .1)
+    (rises-none _ _ _ _ _ _ _ refl (c .loop-test .left)
+    ∙ sym (c .before .loop .inv))
 
 pub +event+events-spec : {M : Type 1} → statement M
 +event+events-spec = close μ-event μ-events (λ t. event-lts.spec (event-claims t) (event-at t) event.Post

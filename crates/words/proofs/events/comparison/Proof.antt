@@ -31,14 +31,21 @@ enum-told-2 c = search needs
 
 returns-2 : tie.Need-returns-2
 unfolding comparison
-returns-2 c = on _ _ _ _ (c .before .before .before .before .before .before .variable .ensures) (c .before .before .before .before .left .given .1) (λ a0 e0. off _ _ _ _ (c .before .before .variable2 .ensures) (c .enum-told2 .given .1))
+returns-2 c =
+    on _ _ _ _ (c .before .before .before .before .before .before .variable .ensures) (c .before .before .before .before .left .given .1)
+    (λ a0 e0.
+    off _ _ _ _ (c .before .before .variable2 .ensures) (c .enum-told2 .given .1))
 
 higher-requires : tie.Need-higher-requires
 higher-requires c κs = search needs
 
 returns-3 : tie.Need-returns-3
 unfolding comparison seen used-event
-returns-3 c = on _ _ _ _ (c .before .before .before .before .before .before .before .before .variable .ensures) (c .before .before .before .before .before .before .left .given .1) (λ a0 e0. on _ _ _ _ (c .before .before .before .before .variable2 .ensures) (c .before .before .right .given .1) (λ a1 e1. cc (c .higher .ensures)))
+returns-3 c =
+    on _ _ _ _ (c .before .before .before .before .before .before .before .before .variable .ensures) (c .before .before .before .before .before .before .left .given .1)
+    (λ a0 e0.
+    on _ _ _ _ (c .before .before .before .before .variable2 .ensures) (c .before .before .right .given .1)
+    (λ a1 e1. cc (c .higher .ensures)))
 
 pub comparison-spec : {M : Type 1} → statement M
 comparison-spec =

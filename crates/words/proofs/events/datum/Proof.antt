@@ -25,7 +25,10 @@ draw-requires c κs = search needs
 
 returns-2 : tie.Need-returns-2
 unfolding datum used-event
-returns-2 c = on _ _ _ _ (c .before .before .before .before .small .ensures) (c .before .before .value .given .1) (λ a0 e0. last _ _ _ _ (c .draw .ensures) (λ _. refl))
+returns-2 c =
+    on _ _ _ _ (c .before .before .before .before .small .ensures) (c .before .before .value .given .1)
+    (λ a0 e0.
+    last _ _ _ _ (c .draw .ensures) (λ _. refl))
 
 pub datum-spec : {M : Type 1} → statement M
 datum-spec =

@@ -31,7 +31,10 @@ enum-told-2 c = search needs
 
 returns-2 : tie.Need-returns-2
 unfolding set
-returns-2 c = on _ _ _ _ (c .before .before .before .before .before .before .variable .ensures) (c .before .before .before .before .var .given .1) (λ a0 e0. off _ _ _ _ (c .before .before .most .ensures) (c .enum-told2 .given .1))
+returns-2 c =
+    on _ _ _ _ (c .before .before .before .before .before .before .variable .ensures) (c .before .before .before .before .var .given .1)
+    (λ a0 e0.
+    off _ _ _ _ (c .before .before .most .ensures) (c .enum-told2 .given .1))
 
 values-requires : tie.Need-values-requires
 values-requires c κs = search needs
@@ -44,11 +47,20 @@ enum-told-3 c = search needs
 
 returns-3 : tie.Need-returns-3
 unfolding set
-returns-3 c = on _ _ _ _ (c .before .before .before .before .before .before .before .before .before .before .variable .ensures) (c .before .before .before .before .before .before .before .before .var .given .1) (λ a0 e0. on-word _ _ _ (c .before .before .before .before .before .before .most .ensures) (c .before .before .before .before .size .given .1) (off _ _ _ _ (c .before .before .values .ensures) (c .enum-told3 .given .1)))
+returns-3 c =
+    on _ _ _ _ (c .before .before .before .before .before .before .before .before .before .before .variable .ensures) (c .before .before .before .before .before .before .before .before .var .given .1)
+    (λ a0 e0.
+    on-word _ _ _ (c .before .before .before .before .before .before .most .ensures) (c .before .before .before .before .size .given .1)
+    (off _ _ _ _ (c .before .before .values .ensures) (c .enum-told3 .given .1)))
 
 returns-4 : tie.Need-returns-4
 unfolding set seen used-event
-returns-4 c = on _ _ _ _ (c .before .before .before .before .before .before .before .before .before .before .before .variable .ensures) (c .before .before .before .before .before .before .before .before .before .var .given .1) (λ a0 e0. on-word _ _ _ (c .before .before .before .before .before .before .before .most .ensures) (c .before .before .before .before .before .size .given .1) (on _ _ _ _ (c .before .before .before .values .ensures) (c .before .all .given .1) (λ a2 e2. cc)))
+returns-4 c =
+    on _ _ _ _ (c .before .before .before .before .before .before .before .before .before .before .before .variable .ensures) (c .before .before .before .before .before .before .before .before .before .var .given .1)
+    (λ a0 e0.
+    on-word _ _ _ (c .before .before .before .before .before .before .before .most .ensures) (c .before .before .before .before .before .size .given .1)
+    (on _ _ _ _ (c .before .before .before .values .ensures) (c .before .all .given .1)
+    (λ a2 e2. cc)))
 
 pub set-spec : {M : Type 1} → statement M
 set-spec =

@@ -30,14 +30,24 @@ enum-told-2 c = search needs
 
 returns-2 : tie.Need-returns-2
 unfolding addend if-read
-returns-2 c = on _ _ _ _ (c .before .before .before .before .before .before .before .flag .ensures) (c .before .before .before .before .before .has .given .1) (λ a0 e0. rw (flag-set a0 e0 (c .before .before .before .if1 .taken)) (off _ _ _ _ (c .before .before .small .ensures) (c .enum-told2 .given .1)))
+returns-2 c =
+    on _ _ _ _ (c .before .before .before .before .before .before .before .flag .ensures) (c .before .before .before .before .before .has .given .1)
+    (λ a0 e0.
+    rw (flag-set a0 e0 (c .before .before .before .if1 .taken))
+    (off _ _ _ _ (c .before .before .small .ensures) (c .enum-told2 .given .1)))
 
 variable-requires : tie.Need-variable-requires
 variable-requires c κs = search needs
 
 returns-3 : tie.Need-returns-3
 unfolding addend if-read
-returns-3 c = on _ _ _ _ (c .before .before .before .before .before .before .before .before .before .flag .ensures) (c .before .before .before .before .before .before .before .has .given .1) (λ a0 e0. rw (flag-set a0 e0 (c .before .before .before .before .before .if1 .taken)) (on _ _ _ _ (c .before .before .before .before .small .ensures) (c .before .before .factor .given .1) (λ a1 e1. last _ _ _ _ (c .variable .ensures) (λ _. refl))))
+returns-3 c =
+    on _ _ _ _ (c .before .before .before .before .before .before .before .before .before .flag .ensures) (c .before .before .before .before .before .before .before .has .given .1)
+    (λ a0 e0.
+    rw (flag-set a0 e0 (c .before .before .before .before .before .if1 .taken))
+    (on _ _ _ _ (c .before .before .before .before .small .ensures) (c .before .before .factor .given .1)
+    (λ a1 e1.
+    last _ _ _ _ (c .variable .ensures) (λ _. refl))))
 
 nought-requires : tie.Need-nought-requires
 nought-requires c κs = search needs
@@ -50,14 +60,24 @@ enum-told-3 c = search needs
 
 returns-4 : tie.Need-returns-4
 unfolding addend if-read
-returns-4 c = on _ _ _ _ (c .before .before .before .before .before .before .before .flag .ensures) (c .before .before .before .before .before .has .given .1) (λ a0 e0. rw (flag-clear a0 e0 (c .before .before .before .if1 .left)) (off _ _ _ _ (c .before .before .nought .ensures) (c .enum-told3 .given .1)))
+returns-4 c =
+    on _ _ _ _ (c .before .before .before .before .before .before .before .flag .ensures) (c .before .before .before .before .before .has .given .1)
+    (λ a0 e0.
+    rw (flag-clear a0 e0 (c .before .before .before .if1 .left))
+    (off _ _ _ _ (c .before .before .nought .ensures) (c .enum-told3 .given .1)))
 
 nought-requires-2 : tie.Need-nought-requires-2
 nought-requires-2 c κs = search needs
 
 returns-5 : tie.Need-returns-5
 unfolding addend if-read
-returns-5 c = on _ _ _ _ (c .before .before .before .before .before .before .before .before .before .flag .ensures) (c .before .before .before .before .before .before .before .has .given .1) (λ a0 e0. rw (flag-clear a0 e0 (c .before .before .before .before .before .if1 .left)) (on _ _ _ _ (c .before .before .before .before .nought .ensures) (c .before .before .none .given .1) (λ a1 e1. last _ _ _ _ (c .nought2 .ensures) (λ _. refl))))
+returns-5 c =
+    on _ _ _ _ (c .before .before .before .before .before .before .before .before .before .flag .ensures) (c .before .before .before .before .before .before .before .has .given .1)
+    (λ a0 e0.
+    rw (flag-clear a0 e0 (c .before .before .before .before .before .if1 .left))
+    (on _ _ _ _ (c .before .before .before .before .nought .ensures) (c .before .before .none .given .1)
+    (λ a1 e1.
+    last _ _ _ _ (c .nought2 .ensures) (λ _. refl))))
 
 pub addend-spec : {M : Type 1} → statement M
 addend-spec =

@@ -31,7 +31,10 @@ enum-told-2 c = search needs
 
 returns-2 : tie.Need-returns-2
 unfolding assign
-returns-2 c = on _ _ _ _ (c .before .before .before .before .before .before .variable .ensures) (c .before .before .before .before .var .given .1) (λ a0 e0. off _ _ _ _ (c .before .before .flag .ensures) (c .enum-told2 .given .1))
+returns-2 c =
+    on _ _ _ _ (c .before .before .before .before .before .before .variable .ensures) (c .before .before .before .before .var .given .1)
+    (λ a0 e0.
+    off _ _ _ _ (c .before .before .flag .ensures) (c .enum-told2 .given .1))
 
 addend-requires : tie.Need-addend-requires
 addend-requires c κs = search needs
@@ -44,7 +47,12 @@ enum-told-3 c = search needs
 
 returns-3 : tie.Need-returns-3
 unfolding assign
-returns-3 c = on _ _ _ _ (c .before .before .before .before .before .before .before .before .before .before .variable .ensures) (c .before .before .before .before .before .before .before .before .var .given .1) (λ a0 e0. on _ _ _ _ (c .before .before .before .before .before .before .flag .ensures) (c .before .before .before .before .add .given .1) (λ a1 e1. off _ _ _ _ (c .before .before .addend .ensures) (c .enum-told3 .given .1)))
+returns-3 c =
+    on _ _ _ _ (c .before .before .before .before .before .before .before .before .before .before .variable .ensures) (c .before .before .before .before .before .before .before .before .var .given .1)
+    (λ a0 e0.
+    on _ _ _ _ (c .before .before .before .before .before .before .flag .ensures) (c .before .before .before .before .add .given .1)
+    (λ a1 e1.
+    off _ _ _ _ (c .before .before .addend .ensures) (c .enum-told3 .given .1)))
 
 small-requires : tie.Need-small-requires
 small-requires c κs = search needs
@@ -57,14 +65,29 @@ enum-told-4 c = search needs
 
 returns-4 : tie.Need-returns-4
 unfolding assign
-returns-4 c = on _ _ _ _ (c .before .before .before .before .before .before .before .before .before .before .before .before .before .before .variable .ensures) (c .before .before .before .before .before .before .before .before .before .before .before .before .var .given .1) (λ a0 e0. on _ _ _ _ (c .before .before .before .before .before .before .before .before .before .before .flag .ensures) (c .before .before .before .before .before .before .before .before .add .given .1) (λ a1 e1. on _ _ _ _ (c .before .before .before .before .before .before .addend .ensures) (c .before .before .before .before .product .given .1) (λ a2 e2. off _ _ _ _ (c .before .before .small .ensures) (c .enum-told4 .given .1))))
+returns-4 c =
+    on _ _ _ _ (c .before .before .before .before .before .before .before .before .before .before .before .before .before .before .variable .ensures) (c .before .before .before .before .before .before .before .before .before .before .before .before .var .given .1)
+    (λ a0 e0.
+    on _ _ _ _ (c .before .before .before .before .before .before .before .before .before .before .flag .ensures) (c .before .before .before .before .before .before .before .before .add .given .1)
+    (λ a1 e1.
+    on _ _ _ _ (c .before .before .before .before .before .before .addend .ensures) (c .before .before .before .before .product .given .1)
+    (λ a2 e2.
+    off _ _ _ _ (c .before .before .small .ensures) (c .enum-told4 .given .1))))
 
 higher-requires : tie.Need-higher-requires
 higher-requires c κs = search needs
 
 returns-5 : tie.Need-returns-5
 unfolding assign seen used-statement
-returns-5 c = on _ _ _ _ (c .before .before .before .before .before .before .before .before .before .before .before .before .before .before .before .before .variable .ensures) (c .before .before .before .before .before .before .before .before .before .before .before .before .before .before .var .given .1) (λ a0 e0. on _ _ _ _ (c .before .before .before .before .before .before .before .before .before .before .before .before .flag .ensures) (c .before .before .before .before .before .before .before .before .before .before .add .given .1) (λ a1 e1. on _ _ _ _ (c .before .before .before .before .before .before .before .before .addend .ensures) (c .before .before .before .before .before .before .product .given .1) (λ a2 e2. on _ _ _ _ (c .before .before .before .before .small .ensures) (c .before .before .offset .given .1) (λ a3 e3. cc (c .higher .ensures)))))
+returns-5 c =
+    on _ _ _ _ (c .before .before .before .before .before .before .before .before .before .before .before .before .before .before .before .before .variable .ensures) (c .before .before .before .before .before .before .before .before .before .before .before .before .before .before .var .given .1)
+    (λ a0 e0.
+    on _ _ _ _ (c .before .before .before .before .before .before .before .before .before .before .before .before .flag .ensures) (c .before .before .before .before .before .before .before .before .before .before .add .given .1)
+    (λ a1 e1.
+    on _ _ _ _ (c .before .before .before .before .before .before .before .before .addend .ensures) (c .before .before .before .before .before .before .product .given .1)
+    (λ a2 e2.
+    on _ _ _ _ (c .before .before .before .before .small .ensures) (c .before .before .offset .given .1)
+    (λ a3 e3. cc (c .higher .ensures)))))
 
 pub assign-spec : {M : Type 1} → statement M
 assign-spec =

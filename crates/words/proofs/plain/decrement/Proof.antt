@@ -31,11 +31,18 @@ enum-told-2 c = search needs
 
 returns-2 : tie.Need-returns-2
 unfolding decrement
-returns-2 c = on _ _ _ _ (c .before .before .before .before .before .before .variable .ensures) (c .before .before .before .before .var .given .1) (λ a0 e0. off _ _ _ _ (c .before .before .small .ensures) (c .enum-told2 .given .1))
+returns-2 c =
+    on _ _ _ _ (c .before .before .before .before .before .before .variable .ensures) (c .before .before .before .before .var .given .1)
+    (λ a0 e0.
+    off _ _ _ _ (c .before .before .small .ensures) (c .enum-told2 .given .1))
 
 returns-3 : tie.Need-returns-3
 unfolding decrement seen used-statement
-returns-3 c = on _ _ _ _ (c .before .before .before .before .before .before .before .variable .ensures) (c .before .before .before .before .before .var .given .1) (λ a0 e0. on _ _ _ _ (c .before .before .before .small .ensures) (c .before .offset .given .1) (λ a1 e1. cc))
+returns-3 c =
+    on _ _ _ _ (c .before .before .before .before .before .before .before .variable .ensures) (c .before .before .before .before .before .var .given .1)
+    (λ a0 e0.
+    on _ _ _ _ (c .before .before .before .small .ensures) (c .before .offset .given .1)
+    (λ a1 e1. cc))
 
 pub decrement-spec : {M : Type 1} → statement M
 decrement-spec =

@@ -31,7 +31,10 @@ enum-told-2 c = search needs
 
 returns-2 : tie.Need-returns-2
 unfolding sample
-returns-2 c = on _ _ _ _ (c .before .before .before .before .before .before .variable .ensures) (c .before .before .before .before .var .given .1) (λ a0 e0. off _ _ _ _ (c .before .before .flag .ensures) (c .enum-told2 .given .1))
+returns-2 c =
+    on _ _ _ _ (c .before .before .before .before .before .before .variable .ensures) (c .before .before .before .before .var .given .1)
+    (λ a0 e0.
+    off _ _ _ _ (c .before .before .flag .ensures) (c .enum-told2 .given .1))
 
 draw-requires : tie.Need-draw-requires
 draw-requires c κs = search needs
@@ -44,14 +47,25 @@ enum-told-3 c = search needs
 
 returns-3 : tie.Need-returns-3
 unfolding sample
-returns-3 c = on _ _ _ _ (c .before .before .before .before .before .before .before .before .before .before .variable .ensures) (c .before .before .before .before .before .before .before .before .var .given .1) (λ a0 e0. on _ _ _ _ (c .before .before .before .before .before .before .flag .ensures) (c .before .before .before .before .add .given .1) (λ a1 e1. off _ _ _ _ (c .before .before .draw .ensures) (c .enum-told3 .given .1)))
+returns-3 c =
+    on _ _ _ _ (c .before .before .before .before .before .before .before .before .before .before .variable .ensures) (c .before .before .before .before .before .before .before .before .var .given .1)
+    (λ a0 e0.
+    on _ _ _ _ (c .before .before .before .before .before .before .flag .ensures) (c .before .before .before .before .add .given .1)
+    (λ a1 e1.
+    off _ _ _ _ (c .before .before .draw .ensures) (c .enum-told3 .given .1)))
 
 higher-requires : tie.Need-higher-requires
 higher-requires c κs = search needs
 
 returns-4 : tie.Need-returns-4
 unfolding sample seen used-statement
-returns-4 c = on _ _ _ _ (c .before .before .before .before .before .before .before .before .before .before .before .before .variable .ensures) (c .before .before .before .before .before .before .before .before .before .before .var .given .1) (λ a0 e0. on _ _ _ _ (c .before .before .before .before .before .before .before .before .flag .ensures) (c .before .before .before .before .before .before .add .given .1) (λ a1 e1. on _ _ _ _ (c .before .before .before .before .draw .ensures) (c .before .before .drawn .given .1) (λ a2 e2. cc (c .higher .ensures))))
+returns-4 c =
+    on _ _ _ _ (c .before .before .before .before .before .before .before .before .before .before .before .before .variable .ensures) (c .before .before .before .before .before .before .before .before .before .before .var .given .1)
+    (λ a0 e0.
+    on _ _ _ _ (c .before .before .before .before .before .before .before .before .flag .ensures) (c .before .before .before .before .before .before .add .given .1)
+    (λ a1 e1.
+    on _ _ _ _ (c .before .before .before .before .draw .ensures) (c .before .before .drawn .given .1)
+    (λ a2 e2. cc (c .higher .ensures))))
 
 pub sample-spec : {M : Type 1} → statement M
 sample-spec =

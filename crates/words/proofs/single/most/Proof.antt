@@ -22,11 +22,15 @@ returns c = off _ _ _ _ (c .before .before .word .ensures) (c .enum-told .given 
 
 returns-2 : tie.Need-returns-2
 unfolding unless if-read seen
-returns-2 c = on-word _ _ _ (c .before .before .before .before .word .ensures) (c .before .before .any .given .1) (rw (le-leb _ _ (c .if1 .taken)))
+returns-2 c =
+    on-word _ _ _ (c .before .before .before .before .word .ensures) (c .before .before .any .given .1)
+    (rw (le-leb _ _ (c .if1 .taken)))
 
 returns-3 : tie.Need-returns-3
 unfolding unless if-read seen
-returns-3 c = on-word _ _ _ (c .before .before .before .before .word .ensures) (c .before .before .any .given .1) (rw (lt-leb _ _ (c .if1 .left)))
+returns-3 c =
+    on-word _ _ _ (c .before .before .before .before .word .ensures) (c .before .before .any .given .1)
+    (rw (lt-leb _ _ (c .if1 .left)))
 
 pub most-spec : {M : Type 1} → statement M
 most-spec = tie.close (tie.spec word-requires enum-known-any enum-told returns returns-2 returns-3)

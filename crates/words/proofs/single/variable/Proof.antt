@@ -25,11 +25,15 @@ add-t10 c = search needs
 
 returns-2 : tie.Need-returns-2
 unfolding unless if-read seen
-returns-2 c = on-word _ _ _ (c .before .before .before .before .word .ensures) (c .before .before .any .given .1) (rw (lt-ltb _ _ (c .if1 .taken)))
+returns-2 c =
+    on-word _ _ _ (c .before .before .before .before .word .ensures) (c .before .before .any .given .1)
+    (rw (lt-ltb _ _ (c .if1 .taken)))
 
 returns-3 : tie.Need-returns-3
 unfolding unless if-read seen
-returns-3 c = on-word _ _ _ (c .before .before .before .before .word .ensures) (c .before .before .any .given .1) (rw (le-ltb _ _ (c .if1 .left)))
+returns-3 c =
+    on-word _ _ _ (c .before .before .before .before .word .ensures) (c .before .before .any .given .1)
+    (rw (le-ltb _ _ (c .if1 .left)))
 
 pub variable-spec : {M : Type 1} → statement M
 variable-spec =

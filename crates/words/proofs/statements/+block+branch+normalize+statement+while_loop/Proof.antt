@@ -139,7 +139,10 @@ block-enum-told-2 t c = search needs
 
 block-returns-2 : (t : ℕ) → block-lts.Need-returns-2 (block-claims t) (block-at t) block.Post block-Inv-loop block-μ-loop
 unfolding reader.block
-block-returns-2 t c = on-word _ _ _ (c .before .before .before .before .before .before .before .before .word .ensures) (c .before .before .before .before .before .before .size .given .1) (raised-off _ (many-off _ _ _ _ _ _ _ (c .before .before .before .loop-test .taken) (c .before .before .statement .ensures) (c .enum-told2 .given .1)) (c .enum-told2 .given .1) ∙ sym (c .before .before .before .before .loop .inv))
+block-returns-2 t c =
+    on-word _ _ _ (c .before .before .before .before .before .before .before .before .word .ensures) (c .before .before .before .before .before .before .size .given .1)
+    (raised-off _ (many-off _ _ _ _ _ _ _ (c .before .before .before .loop-test .taken) (c .before .before .statement .ensures) (c .enum-told2 .given .1)) (c .enum-told2 .given .1)
+    ∙ sym (c .before .before .before .before .loop .inv))
 
 block-higher-requires : (t : ℕ) → block-lts.Need-higher-requires (block-claims t) (block-at t) block.Post block-Inv-loop block-μ-loop
 block-higher-requires t c κs = search needs
@@ -152,11 +155,17 @@ block-loop-less t c = omega (arith, c .before .before .before .before .before .l
 
 block-loop-again : (t : ℕ) → block-lts.Need-loop-again (block-claims t) (block-at t) block.Post block-Inv-loop block-μ-loop
 unfolding used-statement
-block-loop-again t c = rw (c .higher .ensures) (c .before .before .before .before .before .before .loop .inv ∙ rises _ _ _ _ _ (λ _ _. refl) _ _ _ (c .before .before .before .before .before .loop-test .taken) (c .before .before .before .before .statement .ensures) (c .before .before .one .given .1))
+block-loop-again t c =
+    rw (c .higher .ensures)
+    (c .before .before .before .before .before .before .loop .inv
+    ∙ rises _ _ _ _ _ (λ _ _. refl) _ _ _ (c .before .before .before .before .before .loop-test .taken) (c .before .before .before .before .statement .ensures) (c .before .before .one .given .1))
 
 block-returns-3 : (t : ℕ) → block-lts.Need-returns-3 (block-claims t) (block-at t) block.Post block-Inv-loop block-μ-loop
 unfolding reader.block used-statement
-block-returns-3 t c = on-word _ _ _ (c .before .before .before .before .before .word .ensures) (c .before .before .before .size .given .1) (rises-none _ _ _ _ _ _ _ refl (c .loop-test .left) ∙ sym (c .before .loop .inv))
+block-returns-3 t c =
+    on-word _ _ _ (c .before .before .before .before .before .word .ensures) (c .before .before .before .size .given .1)
+    (rises-none _ _ _ _ _ _ _ refl (c .loop-test .left)
+    ∙ sym (c .before .loop .inv))
 
 branch-event-requires : (t : ℕ) → branch-lts.Need-event-requires (branch-claims t) (branch-at t) branch.Post
 branch-event-requires t c κs = search needs
@@ -185,7 +194,10 @@ branch-enum-told-2 t c = search needs
 
 branch-returns-2 : (t : ℕ) → branch-lts.Need-returns-2 (branch-claims t) (branch-at t) branch.Post
 unfolding reader.branch
-branch-returns-2 t c = on _ _ _ _ (c .before .before .before .before .before .before .event .ensures) (c .before .before .before .before .test .given .1) (λ a0 e0. off _ _ _ _ (c .before .before .block .ensures) (c .enum-told2 .given .1))
+branch-returns-2 t c =
+    on _ _ _ _ (c .before .before .before .before .before .before .event .ensures) (c .before .before .before .before .test .given .1)
+    (λ a0 e0.
+    off _ _ _ _ (c .before .before .block .ensures) (c .enum-told2 .given .1))
 
 branch-sub-block-2 : (t : ℕ) → branch-lts.Need-sub-block-2 (branch-claims t) (branch-at t) branch.Post
 branch-sub-block-2 t c = omega (arith, c .before .before .before .before .before .before .before .before .before .pre .1)
@@ -201,7 +213,12 @@ branch-enum-told-3 t c = search needs
 
 branch-returns-3 : (t : ℕ) → branch-lts.Need-returns-3 (branch-claims t) (branch-at t) branch.Post
 unfolding reader.branch
-branch-returns-3 t c = on _ _ _ _ (c .before .before .before .before .before .before .before .before .before .before .event .ensures) (c .before .before .before .before .before .before .before .before .test .given .1) (λ a0 e0. on _ _ _ _ (c .before .before .before .before .before .before .block .ensures) (c .before .before .before .before .then-list .given .1) (λ a1 e1. off _ _ _ _ (c .before .before .block2 .ensures) (c .enum-told3 .given .1)))
+branch-returns-3 t c =
+    on _ _ _ _ (c .before .before .before .before .before .before .before .before .before .before .event .ensures) (c .before .before .before .before .before .before .before .before .test .given .1)
+    (λ a0 e0.
+    on _ _ _ _ (c .before .before .before .before .before .before .block .ensures) (c .before .before .before .before .then-list .given .1)
+    (λ a1 e1.
+    off _ _ _ _ (c .before .before .block2 .ensures) (c .enum-told3 .given .1)))
 
 branch-higher-requires : (t : ℕ) → branch-lts.Need-higher-requires (branch-claims t) (branch-at t) branch.Post
 branch-higher-requires t c κs = search needs
@@ -211,7 +228,14 @@ branch-higher-requires-2 t c κs = search needs
 
 branch-returns-4 : (t : ℕ) → branch-lts.Need-returns-4 (branch-claims t) (branch-at t) branch.Post
 unfolding reader.branch seen used-statement
-branch-returns-4 t c = on _ _ _ _ (c .before .before .before .before .before .before .before .before .before .before .before .before .before .event .ensures) (c .before .before .before .before .before .before .before .before .before .before .before .test .given .1) (λ a0 e0. on _ _ _ _ (c .before .before .before .before .before .before .before .before .before .block .ensures) (c .before .before .before .before .before .before .before .then-list .given .1) (λ a1 e1. on _ _ _ _ (c .before .before .before .before .before .block2 .ensures) (c .before .before .before .else-list .given .1) (λ a2 e2. cc (c .before .higher .ensures, c .higher2 .ensures))))
+branch-returns-4 t c =
+    on _ _ _ _ (c .before .before .before .before .before .before .before .before .before .before .before .before .before .event .ensures) (c .before .before .before .before .before .before .before .before .before .before .before .test .given .1)
+    (λ a0 e0.
+    on _ _ _ _ (c .before .before .before .before .before .before .before .before .before .block .ensures) (c .before .before .before .before .before .before .before .then-list .given .1)
+    (λ a1 e1.
+    on _ _ _ _ (c .before .before .before .before .before .block2 .ensures) (c .before .before .before .else-list .given .1)
+    (λ a2 e2.
+    cc (c .before .higher .ensures, c .higher2 .ensures))))
 
 normalize-given-requires : (t : ℕ) → normalize-lts.Need-given-requires (normalize-claims t) (normalize-at t) normalize.Post
 normalize-given-requires t c κs = search needs
@@ -234,7 +258,10 @@ normalize-block-requires t c κs = (omega (arith, c .before .before .before .bef
 
 normalize-returns-2 : (t : ℕ) → normalize-lts.Need-returns-2 (normalize-claims t) (normalize-at t) normalize.Post
 unfolding reader.normalize used-statement
-normalize-returns-2 t c = on _ _ _ _ (c .before .before .before .before .given .ensures) (c .before .before .vars .given .1) (λ a0 e0. last _ _ _ _ (c .block .ensures) (λ _. refl))
+normalize-returns-2 t c =
+    on _ _ _ _ (c .before .before .before .before .given .ensures) (c .before .before .vars .given .1)
+    (λ a0 e0.
+    last _ _ _ _ (c .block .ensures) (λ _. refl))
 
 statement-word-requires : (t : ℕ) → statement-lts.Need-word-requires (statement-claims t) (statement-at t) statement′.Post
 statement-word-requires t c κs = search needs
@@ -267,7 +294,9 @@ statement-returns-3 : (t : ℕ) → statement-lts.Need-returns-3 (statement-clai
 unfolding reader.by-kind reader.if-read seen
 statement-returns-3 t c =
     let a = c .before .before .before .before .before .before .before .before .args in
-    statement-kind _ _ (a .deep) _ _ (c .before .before .before .before .before .before .word .ensures) (a .deep - 1) (omega (arith, c .before .before .if1 .left)) (c .before .before .before .before .first .given .1) 5 (c .before .match2 .keys5) (rw (eq-eqb _ _ (c .if2 .taken)))
+    statement-kind _ _ (a .deep) _ _ (c .before .before .before .before .before .before .word .ensures) (a .deep - 1) (omega (arith, c .before .before .if1 .left)) (c .before .before .before .before .first .given .1)
+    5 (c .before .match2 .keys5)
+    (rw (eq-eqb _ _ (c .if2 .taken)))
 
 statement-while-loop-requires : (t : ℕ) → statement-lts.Need-while-loop-requires (statement-claims t) (statement-at t) statement′.Post
 statement-while-loop-requires t c κs = (omega (arith, c .before .before .if1 .left, c .before .before .before .before .before .before .before .before .pre .0), (omega (arith, c .before .before .if1 .left), omega (arith, c .if2 .left)))
@@ -279,43 +308,57 @@ statement-returns-4 : (t : ℕ) → statement-lts.Need-returns-4 (statement-clai
 unfolding reader.by-kind
 statement-returns-4 t c =
     let a = c .before .before .before .before .before .before .before .before .args in
-    statement-kind _ _ (a .deep) _ _ (c .before .before .before .before .before .before .word .ensures) (a .deep - 1) (omega (arith, c .before .before .if1 .left)) (c .before .before .before .before .first .given .1) 1 (c .before .match2 .keys1) (c .sample .ensures)
+    statement-kind _ _ (a .deep) _ _ (c .before .before .before .before .before .before .word .ensures) (a .deep - 1) (omega (arith, c .before .before .if1 .left)) (c .before .before .before .before .first .given .1)
+    1 (c .before .match2 .keys1)
+    (c .sample .ensures)
 
 statement-returns-5 : (t : ℕ) → statement-lts.Need-returns-5 (statement-claims t) (statement-at t) statement′.Post
 unfolding reader.by-kind
 statement-returns-5 t c =
     let a = c .before .before .before .before .before .before .before .before .args in
-    statement-kind _ _ (a .deep) _ _ (c .before .before .before .before .before .before .word .ensures) (a .deep - 1) (omega (arith, c .before .before .if1 .left)) (c .before .before .before .before .first .given .1) 2 (c .before .match2 .keys2) (c .assign .ensures)
+    statement-kind _ _ (a .deep) _ _ (c .before .before .before .before .before .before .word .ensures) (a .deep - 1) (omega (arith, c .before .before .if1 .left)) (c .before .before .before .before .first .given .1)
+    2 (c .before .match2 .keys2)
+    (c .assign .ensures)
 
 statement-returns-6 : (t : ℕ) → statement-lts.Need-returns-6 (statement-claims t) (statement-at t) statement′.Post
 unfolding reader.by-kind
 statement-returns-6 t c =
     let a = c .before .before .before .before .before .before .before .before .args in
-    statement-kind _ _ (a .deep) _ _ (c .before .before .before .before .before .before .word .ensures) (a .deep - 1) (omega (arith, c .before .before .if1 .left)) (c .before .before .before .before .first .given .1) 3 (c .before .match2 .keys3) (c .decrement .ensures)
+    statement-kind _ _ (a .deep) _ _ (c .before .before .before .before .before .before .word .ensures) (a .deep - 1) (omega (arith, c .before .before .if1 .left)) (c .before .before .before .before .first .given .1)
+    3 (c .before .match2 .keys3)
+    (c .decrement .ensures)
 
 statement-returns-7 : (t : ℕ) → statement-lts.Need-returns-7 (statement-claims t) (statement-at t) statement′.Post
 unfolding reader.by-kind
 statement-returns-7 t c =
     let a = c .before .before .before .before .before .before .before .before .args in
-    statement-kind _ _ (a .deep) _ _ (c .before .before .before .before .before .before .word .ensures) (a .deep - 1) (omega (arith, c .before .before .if1 .left)) (c .before .before .before .before .first .given .1) 4 (c .before .match2 .keys4) (c .branch .ensures)
+    statement-kind _ _ (a .deep) _ _ (c .before .before .before .before .before .before .word .ensures) (a .deep - 1) (omega (arith, c .before .before .if1 .left)) (c .before .before .before .before .first .given .1)
+    4 (c .before .match2 .keys4)
+    (c .branch .ensures)
 
 statement-returns-8 : (t : ℕ) → statement-lts.Need-returns-8 (statement-claims t) (statement-at t) statement′.Post
 unfolding reader.by-kind reader.if-read
 statement-returns-8 t c =
     let a = c .before .before .before .before .before .before .before .before .before .args in
-    statement-kind _ _ (a .deep) _ _ (c .before .before .before .before .before .before .before .word .ensures) (a .deep - 1) (omega (arith, c .before .before .before .if1 .left)) (c .before .before .before .before .before .first .given .1) 5 (c .before .before .match2 .keys5) (rw (ne-eqb _ _ (c .before .if2 .left)) (c .while-loop .ensures))
+    statement-kind _ _ (a .deep) _ _ (c .before .before .before .before .before .before .before .word .ensures) (a .deep - 1) (omega (arith, c .before .before .before .if1 .left)) (c .before .before .before .before .before .first .given .1)
+    5 (c .before .before .match2 .keys5)
+    (rw (ne-eqb _ _ (c .before .if2 .left)) (c .while-loop .ensures))
 
 statement-returns-9 : (t : ℕ) → statement-lts.Need-returns-9 (statement-claims t) (statement-at t) statement′.Post
 unfolding reader.by-kind seen used-statement
 statement-returns-9 t c =
     let a = c .before .before .before .before .before .before .before .args in
-    statement-kind _ _ (a .deep) _ _ (c .before .before .before .before .before .word .ensures) (a .deep - 1) (omega (arith, c .before .if1 .left)) (c .before .before .before .first .given .1) 6 (c .match2 .keys6) (refl)
+    statement-kind _ _ (a .deep) _ _ (c .before .before .before .before .before .word .ensures) (a .deep - 1) (omega (arith, c .before .if1 .left)) (c .before .before .before .first .given .1)
+    6 (c .match2 .keys6)
+    (refl)
 
 statement-returns-10 : (t : ℕ) → statement-lts.Need-returns-10 (statement-claims t) (statement-at t) statement′.Post
 unfolding reader.by-kind
 statement-returns-10 t c =
     let a = c .before .before .before .before .before .before .before .before .args in
-    statement-kind _ _ (a .deep) _ _ (c .before .before .before .before .before .before .word .ensures) (a .deep - 1) (omega (arith, c .before .before .if1 .left)) (c .before .before .before .before .first .given .1) 7 (c .before .match2 .keys7) (c .normalize .ensures)
+    statement-kind _ _ (a .deep) _ _ (c .before .before .before .before .before .before .word .ensures) (a .deep - 1) (omega (arith, c .before .before .if1 .left)) (c .before .before .before .before .first .given .1)
+    7 (c .before .match2 .keys7)
+    (c .normalize .ensures)
 
 statement-returns-11 : (t : ℕ) → statement-lts.Need-returns-11 (statement-claims t) (statement-at t) statement′.Post
 unfolding Other
@@ -347,7 +390,10 @@ while-loop-enum-told-2 t c = search needs
 
 while-loop-returns-2 : (t : ℕ) → while-loop-lts.Need-returns-2 (while-loop-claims t) (while-loop-at t) while-loop.Post
 unfolding reader.while
-while-loop-returns-2 t c = on _ _ _ _ (c .before .before .before .before .before .before .unroll .ensures) (c .before .before .before .before .turns .given .1) (λ a0 e0. off _ _ _ _ (c .before .before .event .ensures) (c .enum-told2 .given .1))
+while-loop-returns-2 t c =
+    on _ _ _ _ (c .before .before .before .before .before .before .unroll .ensures) (c .before .before .before .before .turns .given .1)
+    (λ a0 e0.
+    off _ _ _ _ (c .before .before .event .ensures) (c .enum-told2 .given .1))
 
 while-loop-sub-block : (t : ℕ) → while-loop-lts.Need-sub-block (while-loop-claims t) (while-loop-at t) while-loop.Post
 while-loop-sub-block t c = omega (arith, c .before .before .before .before .before .before .before .before .before .pre .1 .0)
@@ -366,14 +412,25 @@ while-loop-enum-told-3 t c = search needs
 
 while-loop-returns-3 : (t : ℕ) → while-loop-lts.Need-returns-3 (while-loop-claims t) (while-loop-at t) while-loop.Post
 unfolding reader.while
-while-loop-returns-3 t c = on _ _ _ _ (c .before .before .before .before .before .before .before .before .before .before .unroll .ensures) (c .before .before .before .before .before .before .before .before .turns .given .1) (λ a0 e0. on _ _ _ _ (c .before .before .before .before .before .before .event .ensures) (c .before .before .before .before .test .given .1) (λ a1 e1. off _ _ _ _ (c .before .before .block .ensures) (c .enum-told3 .given .1)))
+while-loop-returns-3 t c =
+    on _ _ _ _ (c .before .before .before .before .before .before .before .before .before .before .unroll .ensures) (c .before .before .before .before .before .before .before .before .turns .given .1)
+    (λ a0 e0.
+    on _ _ _ _ (c .before .before .before .before .before .before .event .ensures) (c .before .before .before .before .test .given .1)
+    (λ a1 e1.
+    off _ _ _ _ (c .before .before .block .ensures) (c .enum-told3 .given .1)))
 
 while-loop-higher-requires : (t : ℕ) → while-loop-lts.Need-higher-requires (while-loop-claims t) (while-loop-at t) while-loop.Post
 while-loop-higher-requires t c κs = search needs
 
 while-loop-returns-4 : (t : ℕ) → while-loop-lts.Need-returns-4 (while-loop-claims t) (while-loop-at t) while-loop.Post
 unfolding reader.while seen used-statement
-while-loop-returns-4 t c = on _ _ _ _ (c .before .before .before .before .before .before .before .before .before .before .before .before .unroll .ensures) (c .before .before .before .before .before .before .before .before .before .before .turns .given .1) (λ a0 e0. on _ _ _ _ (c .before .before .before .before .before .before .before .before .event .ensures) (c .before .before .before .before .before .before .test .given .1) (λ a1 e1. on _ _ _ _ (c .before .before .before .before .block .ensures) (c .before .before .body .given .1) (λ a2 e2. cc (c .higher .ensures))))
+while-loop-returns-4 t c =
+    on _ _ _ _ (c .before .before .before .before .before .before .before .before .before .before .before .before .unroll .ensures) (c .before .before .before .before .before .before .before .before .before .before .turns .given .1)
+    (λ a0 e0.
+    on _ _ _ _ (c .before .before .before .before .before .before .before .before .event .ensures) (c .before .before .before .before .before .before .test .given .1)
+    (λ a1 e1.
+    on _ _ _ _ (c .before .before .before .before .block .ensures) (c .before .before .body .given .1)
+    (λ a2 e2. cc (c .higher .ensures))))
 
 pub +block+branch+normalize+statement+while-loop-spec : {M : Type 1} → statement M
 +block+branch+normalize+statement+while-loop-spec =

@@ -23,7 +23,9 @@ variables-requires c κs = search needs
 
 returns-2 : tie.Need-returns-2
 unfolding given
-returns-2 c = on-word _ _ _ (c .before .before .before .before .most .ensures) (c .before .before .size .given .1) (c .variables .ensures)
+returns-2 c =
+    on-word _ _ _ (c .before .before .before .before .most .ensures) (c .before .before .size .given .1)
+    (c .variables .ensures)
 
 pub given-spec : {M : Type 1} → statement M
 given-spec =

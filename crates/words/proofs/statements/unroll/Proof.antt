@@ -31,19 +31,34 @@ enum-told-2 c = search needs
 
 returns-2 : tie.Need-returns-2
 unfolding unroll
-returns-2 c = on _ _ _ _ (c .before .before .before .before .before .before .flag .ensures) (c .before .before .before .before .has .given .1) (λ a0 e0. off _ _ _ _ (c .before .before .most .ensures) (c .enum-told2 .given .1))
+returns-2 c =
+    on _ _ _ _ (c .before .before .before .before .before .before .flag .ensures) (c .before .before .before .before .has .given .1)
+    (λ a0 e0.
+    off _ _ _ _ (c .before .before .most .ensures) (c .enum-told2 .given .1))
 
 returns-3 : tie.Need-returns-3
 unfolding unroll if-read seen
-returns-3 c = on _ _ _ _ (c .before .before .before .before .before .before .before .before .flag .ensures) (c .before .before .before .before .before .before .has .given .1) (λ a0 e0. on-word _ _ _ (c .before .before .before .before .most .ensures) (c .before .before .turns .given .1) (rw (flag-set a0 e0 (c .if1 .taken))))
+returns-3 c =
+    on _ _ _ _ (c .before .before .before .before .before .before .before .before .flag .ensures) (c .before .before .before .before .before .before .has .given .1)
+    (λ a0 e0.
+    on-word _ _ _ (c .before .before .before .before .most .ensures) (c .before .before .turns .given .1)
+    (rw (flag-set a0 e0 (c .if1 .taken))))
 
 returns-4 : tie.Need-returns-4
 unfolding unroll if-read seen
-returns-4 c = on _ _ _ _ (c .before .before .before .before .before .before .before .before .before .flag .ensures) (c .before .before .before .before .before .before .before .has .given .1) (λ a0 e0. on-word _ _ _ (c .before .before .before .before .before .most .ensures) (c .before .before .before .turns .given .1) (rw (flag-clear a0 e0 (c .before .if1 .left), eq-eqb _ _ (c .if2 .taken))))
+returns-4 c =
+    on _ _ _ _ (c .before .before .before .before .before .before .before .before .before .flag .ensures) (c .before .before .before .before .before .before .before .has .given .1)
+    (λ a0 e0.
+    on-word _ _ _ (c .before .before .before .before .before .most .ensures) (c .before .before .before .turns .given .1)
+    (rw (flag-clear a0 e0 (c .before .if1 .left), eq-eqb _ _ (c .if2 .taken))))
 
 returns-5 : tie.Need-returns-5
 unfolding unroll if-read seen
-returns-5 c = on _ _ _ _ (c .before .before .before .before .before .before .before .before .before .flag .ensures) (c .before .before .before .before .before .before .before .has .given .1) (λ a0 e0. on-word _ _ _ (c .before .before .before .before .before .most .ensures) (c .before .before .before .turns .given .1) (rw (flag-clear a0 e0 (c .before .if1 .left), ne-eqb _ _ (c .if2 .left))))
+returns-5 c =
+    on _ _ _ _ (c .before .before .before .before .before .before .before .before .before .flag .ensures) (c .before .before .before .before .before .before .before .has .given .1)
+    (λ a0 e0.
+    on-word _ _ _ (c .before .before .before .before .before .most .ensures) (c .before .before .before .turns .given .1)
+    (rw (flag-clear a0 e0 (c .before .if1 .left), ne-eqb _ _ (c .if2 .left))))
 
 pub unroll-spec : {M : Type 1} → statement M
 unroll-spec =

@@ -29,7 +29,9 @@ enum-told : tie.Need-enum-told Inv-loop μ-loop
 enum-told c = search needs
 
 returns : tie.Need-returns Inv-loop μ-loop
-returns c = many-off _ _ _ _ _ _ _ (c .before .before .before .loop-test .taken) (c .before .before .variable .ensures) (c .enum-told .given .1) ∙ sym (c .before .before .before .before .loop .inv)
+returns c =
+    many-off _ _ _ _ _ _ _ (c .before .before .before .loop-test .taken) (c .before .before .variable .ensures) (c .enum-told .given .1)
+    ∙ sym (c .before .before .before .before .loop .inv)
 
 sub-left : tie.Need-sub-left Inv-loop μ-loop
 sub-left c = omega arith
@@ -38,7 +40,9 @@ loop-less : tie.Need-loop-less Inv-loop μ-loop
 loop-less c = omega arith
 
 loop-again : tie.Need-loop-again Inv-loop μ-loop
-loop-again c = c .before .before .before .before .before .loop .inv ∙ many-on _ _ _ _ _ _ (c .before .before .before .before .loop-test .taken) (c .before .before .before .variable .ensures) (c .before .var .given .1)
+loop-again c =
+    c .before .before .before .before .before .loop .inv
+    ∙ many-on _ _ _ _ _ _ (c .before .before .before .before .loop-test .taken) (c .before .before .before .variable .ensures) (c .before .var .given .1)
 
 returns-2 : tie.Need-returns-2 Inv-loop μ-loop
 returns-2 c = many-none unused _ _ _ _ _ (c .loop-test .left) ∙ sym (c .before .loop .inv)
