@@ -15,19 +15,19 @@ use Rattle.states.specs.States as states
 use Rattle.states.specs.States.{Fit}
 use Rattle.paper.specs.Tree.{Event, Unroll, Statement, Sample, Assign, Decrement, IfThenElse, While, Fail, Normalize, Statements, done, _then_}
 use Rattle.paper.specs.Code as code
-use Rattle.paper.specs.Limits.{IsProgram}
+use Rattle.paper.specs.Limits.{EventIn, StatementsIn, IsProgram}
 use Rattle.paper.specs.Reader as reader
 use Rattle.paper.specs.Reader.{Reading, Read, Bad}
 use Rattle.paper.specs.Rules as rules
 use Rattle.paper.specs.Rules.{Setting, Looped}
-use Rattle.paper.specs.Runs.{Store, Runs, Holds}
+use Rattle.paper.specs.Runs.{Runs}
 use Rattle.paper.specs.Entries.{ListEnters}
 use Rattle.paper.specs.Trace as trace
-use Rattle.paper.specs.Visits.{Visit, analysed-at, in-first, here}
+use Rattle.paper.specs.Visits.{Visit, analysed-at, ListVisits, in-first, here}
 use Rattle.paper.specs.Answers as answers
 use Rattle.paper.specs.Answers.{Outcome}
 use Rattle.paper.specs.Used.{used}
-use Rattle.paper.specs.Promises.{VisitHolds, EachLoop, Dead, Covers, LoopCovers, Certainty}
+use Rattle.paper.specs.Promises.{VisitHolds, Dead, Covers, LoopCovers, Certainty}
 use Rattle.paper.proofs.ReaderSound.{Codes, letter, all-at, unless-is}
 use Rattle.paper.proofs.ReaderSound as reads
 use Rattle.paper.proofs.Complete.{unique}
@@ -39,10 +39,11 @@ use Rattle.paper.proofs.Loops.{Post}
 use Rattle.paper.proofs.Sound.{list-ok}
 use Rattle.paper.proofs.Starts.{Admitted, admitted-ok}
 use Rattle.paper.proofs.Draws.{draws}
-use Rattle.paper.proofs.Visits.{visit-holds, list-visits}
+use Rattle.paper.proofs.Visits.{Good, visit-holds, visit-most, list-visits}
 use Rattle.paper.proofs.Entered.{Named, named-after, list-names}
 use Rattle.paper.proofs.Marked.{list-place, marked}
-use Rattle.paper.proofs.Passes.{counted, heads, points}
+use Rattle.paper.proofs.Counted.{counted}
+use Rattle.paper.proofs.Heads.{heads, points}
 
 -- ---- what is read
 
@@ -83,9 +84,6 @@ steps ws n cs u =
     sure-map (sure-self (rules.list (record { n = n; unroll = u }) 1 p s)) (λ t q.
     record { program = p; next = i; read = e; start = s; started = a; gave = q })))
 
-each-loop : (g : Setting) (p : Statements) (s : State) → g .n ≤ 64 → StatementsBelow (g .n) p → Fit (g .n) s → EachLoop g p s
-each-loop g p s small lt f v l visits q = visit-holds g small v l (list-visits g small p 1 s v lt f visits) q
-
 -- what the trace of its program names, the answer names
 entered-has : (ws : List ℕ) (n : ℕ) (cs : List Cell) (u : ℕ) (t : State) (S : Steps ws n cs u t) (place : ℕ) → answers.analysed ws n cs u ≡ Gives t →
     Named place (trace.list (record { n = n; unroll = u }) 1 (S .program) (S .start)) → ranges.has (answers.entered ws n cs u) place ≡ true
@@ -101,9 +99,6 @@ analysed-covers ws n cs u t long e = record {
   covers = λ σ τ h r. T .held σ τ (A .held σ h) r;
   none-ends = λ d σ τ h r. holds-dead d (T .held σ τ (A .held σ h) r);
   named = λ σ place h enters. entered-has ws n cs u t S place e (sure-of (list-names g (A .small) (S .program) 1 (S .start) σ place lt (A .fit) (A .held σ h) enters) (S .gave));
-  start = S .start;
-  started = S .started;
-  loops = each-loop g (S .program) (S .start) (A .small) lt (A .fit);
   fit = T .fit;
 }
   where
@@ -187,8 +182,8 @@ looped-ok ws n cs u long =
     let lt : StatementsBelow n p = below n (reads.sound ws n e .within) in
     sure-map (entry (record { n = n; unroll = u }) p s (one p (reads.sound ws n e .is))) (λ l E.
     let loop : Visit = record { unroll = E .unroll; event = E .event; body = E .body; place = 1; from = s } in
-    let all = subst (λ (q : Statements). EachLoop (record { n = n; unroll = u }) q s) (E .is) (each-loop (record { n = n; unroll = u }) p s (A .small) lt (A .fit)) in
-    let holds : VisitHolds (record { n = n; unroll = u }) loop l = all loop l (in-first (here refl)) (E .gave) in
+    let good : Good n loop = list-visits (record { n = n; unroll = u }) (A .small) (While (E .unroll) (E .event) (E .body) then done) 1 s loop (subst (StatementsBelow n) (E .is) lt) (A .fit) (in-first (here refl)) in
+    let holds : VisitHolds (record { n = n; unroll = u }) loop l = visit-holds (record { n = n; unroll = u }) (A .small) loop l good (E .gave) in
     record {
       program = program-of ws n p i e;
       unroll = E .unroll;
@@ -200,7 +195,6 @@ looped-ok ws n cs u long =
       start = s;
       started = a;
       loop = holds;
-      loops = all;
     }))))
 
 pub looped-covers : (ws : List ℕ) (n : ℕ) (cs : List Cell) (u : ℕ) (l : Looped) → length cs ≡ 64 → answers.looped ws n cs u ≡ Gives l → LoopCovers ws n cs u l
@@ -218,6 +212,19 @@ ran-ok ws = sure-elim (ltb 8192 (length ws)) (λ _. refused) (λ _.
 pub ran-covers : (ws : List ℕ) (o : Outcome) → answers.ran ws ≡ Gives o → Covers ws (o .n) states.zeros 0 (o .state)
 ran-covers ws o e = sure-of (ran-ok ws) e
 
+-- ---- loops
+
+-- each time that the rules come to one
+each-loop : (ws : List ℕ) (n : ℕ) (cs : List Cell) (u : ℕ) (p : IsProgram n ws) (start : State) (v : Visit) (l : Looped) → length cs ≡ 64 → answers.admitted ws n u cs ≡ Gives start →
+    ListVisits (record { n = n; unroll = u }) (p .tree) 1 start v → analysed-at (record { n = n; unroll = u }) v ≡ Gives l → VisitHolds (record { n = n; unroll = u }) v l
+each-loop ws n cs u p start v l long started visits q =
+    let A = sure-of (admitted-ok ws n u cs long) started in
+    visit-holds (record { n = n; unroll = u }) (A .small) v l (list-visits (record { n = n; unroll = u }) (A .small) (p .tree) 1 start v (below n (p .within)) (A .fit) visits) q
+
+-- a loop within the limits
+good : (n deep loops : ℕ) (v : Visit) → EventIn n deep (v .event) → StatementsIn n deep loops (v .body) → Fit n (v .from) → Good n v
+good n deep loops v event body f = record { event = event-below n event; body = below n body; from = f }
+
 -- ---- certainty 3, in one place
 
 pub certain : Certainty
@@ -225,11 +232,13 @@ certain = record {
   analysed = analysed-covers;
   looped = looped-covers;
   ran = ran-covers;
-  each-loop = λ g deep loops v l small event body f q. visit-holds g small v l (record { event = event-below (g .n) event; body = below (g .n) body; from = f }) q;
-  entered = entered-dead;
-  marked = marked-dead;
+  each-loop = each-loop;
+  any-loop = λ g deep loops v l small event body f q. visit-holds g small v l (good (g .n) deep loops v event body f) q;
+  gone-over = λ g deep loops v small event body f. visit-most g small v (good (g .n) deep loops v event body f);
   counted = counted;
   heads = heads;
   points = points;
+  entered = entered-dead;
+  marked = marked-dead;
   draws = draws;
 }

@@ -7,14 +7,14 @@ use Prim.Native.Nat.{ℕ, zero, suc, _+_, _-_, _≤_, _<_}
 use native.Mathlib.Omega.{arith}
 use lib.Dec.{eqb, ltb}
 use lib.ListN.{length}
-use borrow.Author.Tests.{eq-eqb, eqb-true, eqb-false}
+use borrow.Author.Tests.{eq-eqb}
 use Rattle.ranges.specs.declared.End.the-variants.{At, Open}
 use Rattle.ranges.specs.declared.Range.{Range}
 use Rattle.ranges.specs.declared.Range.the-variants.{Empty, Span}
 use Rattle.ranges.specs.Ranges as ranges
-use Rattle.ranges.proofs.Laws as L
+use Rattle.ranges.proofs.Laws as laws
 use Rattle.states.specs.declared.State.{State}
-use Rattle.states.specs.Answers.{Answer, Gives, Refuses, and-then}
+use Rattle.states.specs.Answers.{Answer, Gives, Refuses}
 use Rattle.states.specs.States as states
 use Rattle.states.specs.States.{Fit}
 use Rattle.states.proofs.Fits.{fit-put}
@@ -166,12 +166,12 @@ module _ (n : ℕ) (small : n ≤ 64) (body : State → Answer State) (entered :
   enumerated-names rest rest-entered rest-names v s lt f h zero x acc le less = absurd (omega arith)
   enumerated-names rest rest-entered rest-names v s lt f h (suc k) x acc le less = sure-by (rest (states.put s v (ranges.point x))) (λ t q. either (σ v) (suc x)
       (λ now. sure-any (rules.enumerated n body rest v s k (x + 1) (states.join n acc t)) (λ _. named-left _ (sure-of (rest-names (states.put s v (ranges.point x)) (fit-put n small s v (ranges.point x) lt f)
-      (put-kept n small s v (ranges.point x) σ lt f h (subst (λ (y : ℕ). σ v ∈ ranges.point y) (let same : σ v ≡ x = omega arith in same) (L.point-holds (σ v))))) q)))
+      (put-kept n small s v (ranges.point x) σ lt f h (subst (λ (y : ℕ). σ v ∈ ranges.point y) (let same : σ v ≡ x = omega arith in same) (laws.point-holds (σ v))))) q)))
       (λ later. sure-map (enumerated-names rest rest-entered rest-names v s lt f h k (x + 1) (states.join n acc t) (omega arith) (omega arith))
       (λ _ N. named-right (rest-entered (states.put s v (ranges.point x))) (named-after _ q N))))
 
   values-names : (rest : State → Answer State) (rest-entered : State → List ℕ) → ((h : State) → Fit n h → Holds n h σ → Sure (λ _. Named place (rest-entered h)) (rest h)) →
-      (at v : ℕ) (s : State) → v < n → Fit n s → Holds n s σ → (r : Range) → L.In r (σ v) →
+      (at v : ℕ) (s : State) → v < n → Fit n s → Holds n s σ → (r : Range) → laws.In r (σ v) →
       Sure (λ _. Named place (trace.values n body entered rest rest-entered v s r)) (rules.values n body rest at v s r)
   values-names rest rest-entered rest-names at v s lt f h Empty i = refused
   values-names rest rest-entered rest-names at v s lt f h (Span x Open) i = refused
@@ -182,7 +182,7 @@ module _ (n : ℕ) (small : n ≤ 64) (body : State → Answer State) (entered :
   unfolding rules.normalized trace.normalized
   normalized-names [] at s lt f h = body-names s f h
   normalized-names (v ∷ vs) at s lt f h = sure-elim (s .live)
-      (λ l. sure-map (values-names (rules.normalized n body (at + 1) vs) (trace.normalized n body entered (at + 1) vs) (λ t. normalized-names vs (at + 1) t (lt .1)) at v s (lt .0) f h (states.get s v) (L.in-of (states.get s v) (σ v) (h .each v (lt .0))))
+      (λ l. sure-map (values-names (rules.normalized n body (at + 1) vs) (trace.normalized n body entered (at + 1) vs) (λ t. normalized-names vs (at + 1) t (lt .1)) at v s (lt .0) f h (states.get s v) (laws.in-of (states.get s v) (σ v) (h .each v (lt .0))))
       (λ _. named-if (s .live) l))
       (λ _. refused)
 

@@ -74,7 +74,7 @@ module _ (n : ℕ) (small : n ≤ 64) (e : Event) (b : Statements) (pass : State
     (exit-ok : (s : State) → Fit n s → Sure (Kept n (False e) s) (exit s)) where
   -- ---- the search: a state that a pass leaves alone stays alone
 
-  abbrev Still : State → Type 0
+  abbrev pub Still : State → Type 0
   Still s = Sure (λ p. states.same n s (p .next) ≡ true) (pass s)
 
   left-alone : (s : State) (p : Pass) → Fit n s → Still s → pass s ≡ Gives p → s ≡ p .next
@@ -83,7 +83,7 @@ module _ (n : ℕ) (small : n ≤ 64) (e : Event) (b : Statements) (pass : State
   still-next : (s : State) (p : Pass) → Fit n s → Still s → pass s ≡ Gives p → Still (p .next)
   still-next s p f st q = subst Still (left-alone s p f st q) st
 
-  still-within : (s : State) (p : Pass) → Fit n s → Still s → pass s ≡ Gives p → states.within n (p .next) s ≡ true
+  pub still-within : (s : State) (p : Pass) → Fit n s → Still s → pass s ≡ Gives p → states.within n (p .next) s ≡ true
   still-within s p f st q = subst (λ (x : State). states.within n x s ≡ true) (left-alone s p f st q) (within-self n small s)
 
   -- after m passes
@@ -115,7 +115,7 @@ module _ (n : ℕ) (small : n ≤ 64) (e : Event) (b : Statements) (pass : State
   unrolled-still (suc k) (suc m) t f h st = sure-by (pass (t .next)) (λ p q.
       unrolled-still k m (record { next = p .next; exit = states.join n (t .exit) (p .exit) }) (sure-of (pass-ok (t .next) f) q .next .fit) (omega arith) (sure-of st q))
 
-  joining-still : (k i : ℕ) (s : State) → Fit n s → Still s → Sure (λ j. (j .settled ≡ true) × (j .passes ≡ i + 1)) (rules.growing n pass exit (states.join n) (suc k) i s)
+  pub joining-still : (k i : ℕ) (s : State) → Fit n s → Still s → Sure (λ j. (j .settled ≡ true) × (j .passes ≡ i + 1)) (rules.growing n pass exit (states.join n) (suc k) i s)
   unfolding rules.growing
   joining-still k i s f st = sure-by (pass s) (λ p q. sure-elim (states.within n (p .next) s)
       (λ t. given (refl, refl))
@@ -259,15 +259,28 @@ module _ (n : ℕ) (small : n ≤ 64) (e : Event) (b : Statements) (pass : State
         here true j q l σ τ h r o p P k m = k (join-right n small (t .exit) (p .exit) τ x (P .exit .fit) (P .exit .held τ (c σ τ h (subst (λ (m : ℕ). Turned e b m σ τ) (eqb-true j i q) r)) o))
         here false j q l σ τ h r o p P k m = m (let d : j ≡ i → ⊥ = eqb-false j i q in omega arith)
 
-    -- where the search found a state, the joining stops at its first pass
+    -- where the search found a state, the unrolled passes come to it
+    pub found-still : (u j : ℕ) → Fit n first → rules.search n pass exit 100 0 first ≡ Gives (AtPass j) →
+        (j < 100) × Sure (λ t. Fit n (t .next) × Still (t .next)) (rules.unrolled n pass exit (max u j) (record { next = first; exit = states.empty }))
+    unfolding Searched
+    found-still u j f q = by-then (sure-of (search-ok 100 0 first f) q)
+      where
+        by-then : Searched 100 0 first (AtPass j) → (j < 100) × Sure (λ t. Fit n (t .next) × Still (t .next)) (rules.unrolled n pass exit (max u j) (record { next = first; exit = states.empty }))
+        by-then (m, r, lt, st) = (
+          omega arith,
+          sure-both (sure-map (unrolled-ok (max u j) 0 (record { next = first; exit = states.empty }) f (fit-empty n) (covered-first n e b first)) (λ t T. T .next-fit))
+              (unrolled-still (max u j) m (record { next = first; exit = states.empty }) f (omega arith) st),
+        )
+
+    -- and the joining stops at its first pass
     Quick : Found → State → Type 0
     Quick (AtPass j) s = Still s × (j < 100)
     Quick Nowhere s = Unit {0}
 
-    quick : (u : ℕ) (w : Found) → Fit n first → Searched 100 0 first w → Sure (λ t. Quick w (t .next)) (rules.unrolled n pass exit (rules.unroll-passes u w) (record { next = first; exit = states.empty }))
-    unfolding Quick Searched
-    quick u (AtPass j) f (m, q, lt, st) = sure-map (unrolled-still (max u j) m (record { next = first; exit = states.empty }) f (omega arith) st) (λ t T. (T, omega arith))
-    quick u Nowhere f h = sure-map (unrolled-ok u 0 (record { next = first; exit = states.empty }) f (fit-empty n) (covered-first n e b first)) (λ t T. tt)
+    quick : (u : ℕ) (w : Found) → Fit n first → rules.search n pass exit 100 0 first ≡ Gives w → Sure (λ t. Quick w (t .next)) (rules.unrolled n pass exit (rules.unroll-passes u w) (record { next = first; exit = states.empty }))
+    unfolding Quick
+    quick u (AtPass j) f q = let S = found-still u j f q in sure-map (S .1) (λ t T. (T .1, S .0))
+    quick u Nowhere f q = sure-map (unrolled-ok u 0 (record { next = first; exit = states.empty }) f (fit-empty n) (covered-first n e b first)) (λ t T. tt)
 
     Counted : Found → (joined widened : ℕ) → Type 0
     Counted (AtPass j) x y = (x ≡ 1) × (y ≡ 0) × (j < 100)
@@ -298,7 +311,7 @@ module _ (n : ℕ) (small : n ≤ 64) (e : Event) (b : Statements) (pass : State
     loop-ok u f =
         sure-by (rules.search n pass exit 100 0 first) (λ w search.
         let W = sure-of (search-ok 100 0 first f) search in
-        sure-then (sure-both (unrolled-ok (rules.unroll-passes u w) 0 (record { next = first; exit = states.empty }) f (fit-empty n) (covered-first n e b first)) (quick u w f W)) (λ t T.
+        sure-then (sure-both (unrolled-ok (rules.unroll-passes u w) 0 (record { next = first; exit = states.empty }) f (fit-empty n) (covered-first n e b first)) (quick u w f search)) (λ t T.
         sure-then (sure-both (settle-ok (t .next) (T .0 .next-fit)) (counted w (t .next) (T .0 .next-fit) (T .1))) (λ m M.
         sure-then (exit-ok (m .at) (M .0 .fit)) (λ x X.
         let turned : Covered n e b first (rules.unroll-passes u w) (t .next) = T .0 .next-held (rules.unroll-passes u w) (omega arith) in

@@ -2,14 +2,14 @@
 use mathlib.Core.Path.{refl}
 use mathlib.Core.Bool.{Bool, true, false, cond}
 use mathlib.Core.List.{List}
-use Prim.Native.Nat.{ℕ, suc, _+_, _-_, _≤_, _<_}
+use Prim.Native.Nat.{ℕ, _+_, _-_, _≤_, _<_}
 use native.Mathlib.Nat.{mul-comm}
 use lib.ListN.{length}
 use Rattle.ranges.specs.declared.Range.{Range}
 use Rattle.ranges.specs.Ranges as ranges
 use Rattle.ranges.specs.declared.Bounded.{Bounded}
 use Rattle.ranges.specs.declared.Bounded.the-variants.{Is, Over}
-use Rattle.ranges.proofs.Laws as L
+use Rattle.ranges.proofs.Laws as laws
 use Rattle.states.specs.declared.State.{State}
 use Rattle.states.specs.States as states
 use Rattle.states.specs.States.{Fit}
@@ -18,9 +18,9 @@ use Rattle.paper.specs.Tree.{Draw, Event, Addend, Nought, Times, Unroll}
 use Rattle.paper.specs.Tree.{Statement, Sample, Assign, Decrement, IfThenElse, While, Fail, Normalize, Statements, done, _then_}
 use Rattle.paper.specs.Code as code
 use Rattle.paper.specs.Rules as rules
-use Rattle.states.specs.Answers.{Answer, Gives}
-use Rattle.paper.specs.Rules.{Setting, Sides, Looped}
-use Rattle.paper.specs.Runs.{Store, worth, _∈_, True, False, Run, sampled, assigned, decremented, went-then, went-else, left, normalized, Runs, ended, went-on, Turned, at-head, once-more, Holds}
+use Rattle.states.specs.Answers.{Answer}
+use Rattle.paper.specs.Rules.{Setting, Sides}
+use Rattle.paper.specs.Runs.{Store, worth, _∈_, False, Run, sampled, assigned, decremented, went-then, went-else, left, normalized, Runs, ended, went-on, Turned, Holds}
 use Rattle.paper.proofs.Below.{AddendBelow, StatementBelow, StatementsBelow}
 use Rattle.paper.proofs.Sure.{Sure, given, refused, sure-then, sure-if, sure-map}
 use Rattle.paper.proofs.Held.{holds-dead, put-stored, join-left, join-right}
@@ -58,21 +58,21 @@ module _ (g : Setting) (small : g .n ≤ 64) where
       Holds (g .n) (states.put s v (ranges.sum (cond add (states.get s v) (ranges.point 0)) (rules.drawn d))) τ
   sampled-held v add d s σ τ lt f h (sampled x t) =
       put-stored (g .n) small s v (ranges.sum (cond add (states.get s v) (ranges.point 0)) (rules.drawn d)) σ (cond add (σ v) 0 + x) lt f h
-      (L.sum-holds (cond add (states.get s v) (ranges.point 0)) (rules.drawn d) (cond add (σ v) 0) x (old-held add s v σ lt h) (draws d x .0 t))
+      (laws.sum-holds (cond add (states.get s v) (ranges.point 0)) (rules.drawn d) (cond add (σ v) 0) x (old-held add s v σ lt h) (draws d x .0 t))
 
-  scaled-held : (x : Addend) (s : State) (σ : Store) → AddendBelow (g .n) x → Holds (g .n) s σ → L.holds-bounded (rules.scaled s x) (worth σ x)
+  scaled-held : (x : Addend) (s : State) (σ : Store) → AddendBelow (g .n) x → Holds (g .n) s σ → laws.holds-bounded (rules.scaled s x) (worth σ x)
   scaled-held Nought s σ lt h = refl
-  scaled-held (Times f w) s σ lt h = rw (mul-comm f (σ w)) (L.times-holds (states.get s w) f (σ w) (h .each w lt))
+  scaled-held (Times f w) s σ lt h = rw (mul-comm f (σ w)) (laws.times-holds (states.get s w) f (σ w) (h .each w lt))
 
   assigned-held : (v : ℕ) (add : Bool) (x : Addend) (k : ℕ) (r : Range) (s : State) (σ τ : Store) → v < g .n → Fit (g .n) s → Holds (g .n) s σ → worth σ x ∈ r → Run (Assign v add x k) σ τ →
       Holds (g .n) (states.put s v (ranges.sum (ranges.sum (cond add (states.get s v) (ranges.point 0)) r) (ranges.point k))) τ
   assigned-held v add x k r s σ τ lt f h i assigned =
       put-stored (g .n) small s v (ranges.sum (ranges.sum (cond add (states.get s v) (ranges.point 0)) r) (ranges.point k)) σ (cond add (σ v) 0 + worth σ x + k) lt f h
-      (L.sum-holds (ranges.sum (cond add (states.get s v) (ranges.point 0)) r) (ranges.point k) (cond add (σ v) 0 + worth σ x) k
-      (L.sum-holds (cond add (states.get s v) (ranges.point 0)) r (cond add (σ v) 0) (worth σ x) (old-held add s v σ lt h) i) (L.point-holds k))
+      (laws.sum-holds (ranges.sum (cond add (states.get s v) (ranges.point 0)) r) (ranges.point k) (cond add (σ v) 0 + worth σ x) k
+      (laws.sum-holds (cond add (states.get s v) (ranges.point 0)) r (cond add (σ v) 0) (worth σ x) (old-held add s v σ lt h) i) (laws.point-holds k))
 
   assigned-ok : (at : ℕ) (s : State) (v : ℕ) (add : Bool) (x : Addend) (k : ℕ) (q : Bounded) → v < g .n → Fit (g .n) s →
-      ((σ : Store) → Holds (g .n) s σ → L.holds-bounded q (worth σ x)) → Sure (Post (g .n) (Run (Assign v add x k)) s) (rules.assigned at s v add k q)
+      ((σ : Store) → Holds (g .n) s σ → laws.holds-bounded q (worth σ x)) → Sure (Post (g .n) (Run (Assign v add x k)) s) (rules.assigned at s v add k q)
   assigned-ok at s v add x k (Is r) lt f h = given (record {
     fit = fit-put (g .n) small s v (ranges.sum (ranges.sum (cond add (states.get s v) (ranges.point 0)) r) (ranges.point k)) lt f;
     dead = put-dead s v (ranges.sum (ranges.sum (cond add (states.get s v) (ranges.point 0)) r) (ranges.point k));
@@ -81,7 +81,7 @@ module _ (g : Setting) (small : g .n ≤ 64) where
   assigned-ok at s v add x k Over lt f h = sure-if (s .live) (λ _. refused) (λ d. given (record { fit = f; dead = λ x. x; held = λ σ τ i _. absurd (holds-dead d i) }))
 
   lessened-held : (v k : ℕ) (s : State) (σ τ : Store) → v < g .n → Fit (g .n) s → Holds (g .n) s σ → Run (Decrement v k) σ τ → Holds (g .n) (states.put s v (ranges.less (states.get s v) k)) τ
-  lessened-held v k s σ τ lt f h decremented = put-stored (g .n) small s v (ranges.less (states.get s v) k) σ (σ v - k) lt f h (L.less-holds (states.get s v) k (σ v) (h .each v lt))
+  lessened-held v k s σ τ lt f h decremented = put-stored (g .n) small s v (ranges.less (states.get s v) k) σ (σ v - k) lt f h (laws.less-holds (states.get s v) k (σ v) (h .each v lt))
 
   branch-held : (e : Event) (t f : Statements) (s : State) (u : Sides) (a b : State) (σ τ : Store) → Split (g .n) e s u → Post (g .n) (Runs t) (u .yes) a → Post (g .n) (Runs f) (u .no) b →
       Holds (g .n) s σ → Run (IfThenElse e t f) σ τ → Holds (g .n) (states.join (g .n) a b) τ

@@ -1,7 +1,7 @@
 -- Each time that the rules come to a loop, also to an inner one, its analysis is as promised: the state that they come from is well formed.
 use mathlib.Core.Path.{_≡_, sym, subst}
-use mathlib.Core.List.{List}
-use Prim.Native.Nat.{ℕ, _+_, _≤_}
+use mathlib.Core.List.{List, [], _∷_}
+use Prim.Native.Nat.{ℕ, _+_, _*_, _≤_}
 use lib.ListN.{length}
 use Rattle.ranges.specs.Ranges as ranges
 use Rattle.states.specs.declared.State.{State}
@@ -13,14 +13,17 @@ use Rattle.paper.specs.Tree.{Event, Statement, Statements}
 use Rattle.paper.specs.Code as code
 use Rattle.paper.specs.Rules as rules
 use Rattle.paper.specs.Rules.{Setting, Pass, Looped}
+use Rattle.paper.specs.Runs.{Runs}
+use Rattle.paper.specs.Trace as trace
 use Rattle.paper.specs.Visits.{Visit, event-at, body-at, pass-at, exit-at, analysed-at, Head, first, next, joined, widened, Point, all-set, set-to}
 use Rattle.paper.specs.Visits.{StatementVisits, here, in-then, in-else, in-body, in-normalize, ListVisits, in-first, in-rest}
 use Rattle.paper.specs.Promises.{VisitHolds}
 use Rattle.paper.proofs.Below.{EachBelow, EventBelow, StatementBelow, StatementsBelow}
 use Rattle.paper.proofs.Sure.{Sure, sure-of}
-use Rattle.paper.proofs.Splits.{event-ok}
-use Rattle.paper.proofs.Loops.{Passed, Looping}
+use Rattle.paper.proofs.Splits.{Split, event-ok}
+use Rattle.paper.proofs.Loops.{Post, Passed}
 use Rattle.paper.proofs.Sound.{pass-ok, exit-ok, looping-ok, statement-ok, list-ok}
+use Rattle.paper.proofs.Counted.{loop-most}
 
 module _ (n : ℕ) (small : n ≤ 64) where
   head-fit : (e : Event) (b : Statements) (pass : State → Answer Pass) → ((s : State) → Fit n s → Sure (Passed n e b s) (pass s)) → (s h : State) → Fit n s → Head n pass s h → Fit n h
@@ -42,10 +45,22 @@ pub record Good (n : ℕ) (v : Visit) : Type 0 where
   pub from : Fit n (v .from)
 
 module _ (g : Setting) (small : g .n ≤ 64) where
+  event-fine : (v : Visit) → Good (g .n) v → (s : State) → Fit (g .n) s → Sure (Split (g .n) (v .event) s) (event-at g v s)
+  event-fine v G s f = event-ok g small (v .event) (v .place + 3) s (G .event) f
+
+  body-fine : (v : Visit) → Good (g .n) v → (s : State) → Fit (g .n) s → Sure (Post (g .n) (Runs (v .body)) s) (body-at g v s)
+  body-fine v G s f = list-ok g small (v .body) (code.body-at (v .place) (v .event) + 1) s (G .body) f
+
   -- the analysis of such a loop is as promised
   pub visit-holds : (v : Visit) (l : Looped) → Good (g .n) v → analysed-at g v ≡ Gives l → VisitHolds g v l
-  visit-holds v l G q = sure-of (looping-ok (g .n) small (v .event) (v .body) (event-at g v) (body-at g v) (λ s f. event-ok g small (v .event) (v .place + 3) s (G .event) f)
-      (λ s f. list-ok g small (v .body) (code.body-at (v .place) (v .event) + 1) s (G .body) f) (rules.turns g (v .unroll)) (v .from) (G .from)) q .holds
+  visit-holds v l G q = sure-of (looping-ok (g .n) small (v .event) (v .body) (event-at g v) (body-at g v) (event-fine v G) (body-fine v G) (rules.turns g (v .unroll)) (v .from) (G .from)) q .holds
+
+  -- and its body is gone over so often at most
+  pub visit-most : (v : Visit) → Good (g .n) v →
+      length (trace.loop (g .n) (pass-at g v) (λ _. v .place ∷ []) (exit-at g v) (rules.turns g (v .unroll)) (v .from)) ≤ 201 + rules.turns g (v .unroll) + 2 * g .n
+  visit-most v G = loop-most (g .n) small (v .event) (v .body) (pass-at g v) (exit-at g v)
+      (pass-ok (g .n) small (v .event) (v .body) (event-at g v) (body-at g v) (event-fine v G) (body-fine v G))
+      (exit-ok (g .n) small (v .event) (v .body) (event-at g v) (body-at g v) (event-fine v G) (body-fine v G)) (v .place) (v .from) (rules.turns g (v .unroll)) (G .from)
 
   mutual
     statement-visits : (c : Statement) (at : ℕ) (s : State) (v : Visit) → StatementBelow (g .n) c → Fit (g .n) s → StatementVisits g c at s v → Good (g .n) v
@@ -56,8 +71,8 @@ module _ (g : Setting) (small : g .n ≤ 64) where
         list-visits o (code.else-at at e t + 1) (u .no) v (lt .2) (sure-of (event-ok g small e (at + 1) s (lt .0) f) q .no .fit) inside
     statement-visits c at s v lt f (in-body {u = m} {e = e} {b = b} {h = h} {sides = u} H q inside) =
         let loop : Visit = record { unroll = m; event = e; body = b; place = at; from = s } in
-        let i = head-fit (g .n) small e b (pass-at g loop) (pass-ok (g .n) small e b (event-at g loop) (body-at g loop) (λ s f. event-ok g small e (at + 3) s (lt .0) f)
-        (λ s f. list-ok g small b (code.body-at at e + 1) s (lt .1) f)) s h f H in
+        let G : Good (g .n) loop = record { event = lt .0; body = lt .1; from = f } in
+        let i = head-fit (g .n) small e b (pass-at g loop) (pass-ok (g .n) small e b (event-at g loop) (body-at g loop) (event-fine loop G) (body-fine loop G)) s h f H in
         list-visits b (code.body-at at e + 1) (u .yes) v (lt .1) (sure-of (event-ok g small e (at + 3) h (lt .0) i) q .yes .fit) inside
     statement-visits c at s v lt f (in-normalize {vs = vs} {b = b} {h = h} P inside) =
         list-visits b (code.normalized-at at vs + 1) h v (lt .1) (point-fit (g .n) small s h (lt .0) f P) inside

@@ -25,6 +25,26 @@ use Rattle.paper.specs.Trace as trace
 use Rattle.paper.specs.Answers as answers
 use Rattle.paper.specs.Answers.{Outcome}
 
+-- ---- a word list
+
+-- no run of the program that the words code, from the caller's ranges, comes to the beginning of the list whose count stands at a place: it is dead
+abbrev pub Dead : List ℕ → ℕ → List Cell → ℕ → Type 0
+Dead ws n cs place = (p : IsProgram n ws) (σ : Store) → Holds n (states.live cs) σ → ListEnters (p .tree) 1 σ place → ⊥
+
+-- what is certain of the state t that is answered for a word list over n variables, the caller's ranges and a default unroll.
+-- A run begins in any store that lies in each of the caller's first n ranges: in every store if n is 0, in none if one of them is Empty.
+pub record Covers (ws : List ℕ) (n : ℕ) (cs : List Cell) (u : ℕ) (t : State) : Type 0 where
+  -- the words code a program within the limits, the one that is read
+  pub program : IsProgram n ws
+  pub read : reader.program ws n ≡ Read (program .tree) (length ws)
+  -- every finite run of it that does not fail ends in t; where t is empty, none ends
+  pub covers : (σ τ : Store) → Holds n (states.live cs) σ → Runs (program .tree) σ τ → Holds n t τ
+  pub none-ends : t .live ≡ false → (σ τ : Store) → Holds n (states.live cs) σ → Runs (program .tree) σ τ → ⊥
+  -- every list that a run enters, also one that does not end, is named by the trace
+  pub named : (σ : Store) (place : ℕ) → Holds n (states.live cs) σ → ListEnters (program .tree) 1 σ place → ranges.has (answers.entered ws n cs u) place ≡ true
+  -- t is a state of n variables
+  pub fit : Fit n t
+
 -- ---- a loop
 
 -- a state at a loop's head is accepted by one more pass: the pass is made, and its new state lies within it
@@ -65,34 +85,6 @@ pub record LoopHolds (n : ℕ) (pass : State → Answer Pass) (exit : State → 
 abbrev pub VisitHolds : Setting → Visit → Looped → Type 0
 VisitHolds g v l = LoopHolds (g .n) (pass-at g v) (exit-at g v) (v .event) (v .body) (rules.turns g (v .unroll)) (v .from) l
 
--- each time that the rules, going over a program from s, come to a loop, and give an analysis of it
-abbrev pub EachLoop : Setting → Statements → State → Type 0
-EachLoop g p s = (v : Visit) (l : Looped) → ListVisits g p 1 s v → analysed-at g v ≡ Gives l → VisitHolds g v l
-
--- ---- a word list
-
--- no run of the program that the words code, from the caller's ranges, comes to the beginning of the list whose count stands at a place: it is dead
-abbrev pub Dead : List ℕ → ℕ → List Cell → ℕ → Type 0
-Dead ws n cs place = (p : IsProgram n ws) (σ : Store) → Holds n (states.live cs) σ → ListEnters (p .tree) 1 σ place → ⊥
-
--- what is certain of the state t that is answered for a word list over n variables, the caller's ranges and a default unroll.
--- A run begins in any store that lies in each of the caller's first n ranges: in every store if n is 0, in none if one of them is Empty.
-pub record Covers (ws : List ℕ) (n : ℕ) (cs : List Cell) (u : ℕ) (t : State) : Type 0 where
-  -- the words code a program within the limits, the one that is read
-  pub program : IsProgram n ws
-  pub read : reader.program ws n ≡ Read (program .tree) (length ws)
-  -- every finite run of it that does not fail ends in t; where t is empty, none ends
-  pub covers : (σ τ : Store) → Holds n (states.live cs) σ → Runs (program .tree) σ τ → Holds n t τ
-  pub none-ends : t .live ≡ false → (σ τ : Store) → Holds n (states.live cs) σ → Runs (program .tree) σ τ → ⊥
-  -- every list that a run enters, also one that does not end, is named by the trace
-  pub named : (σ : Store) (place : ℕ) → Holds n (states.live cs) σ → ListEnters (program .tree) 1 σ place → ranges.has (answers.entered ws n cs u) place ≡ true
-  -- each time that the rules come to a loop from the starting state, its analysis is as above
-  pub start : State
-  pub started : answers.admitted ws n u cs ≡ Gives start
-  pub loops : EachLoop (record { n = n; unroll = u }) (program .tree) start
-  -- t is a state of n variables
-  pub fit : Fit n t
-
 -- what is certain of the analysis l that is answered by a loop's own entry
 pub record LoopCovers (ws : List ℕ) (n : ℕ) (cs : List Cell) (u : ℕ) (l : Looped) : Type 0 where
   -- the words code a program that is one loop
@@ -104,11 +96,10 @@ pub record LoopCovers (ws : List ℕ) (n : ℕ) (cs : List Cell) (u : ℕ) (l : 
   -- a run of it that leaves the loop leaves it inside the result; the settled state holds it at the head after the unrolled turns
   pub covers : (k : ℕ) (σ τ : Store) → Holds n (states.live cs) σ → Turned event body k σ τ → False event τ → Holds n (l .exits) τ
   pub settled : (k : ℕ) (σ τ : Store) → l .unrolls ≤ k → Holds n (states.live cs) σ → Turned event body k σ τ → Holds n (l .settled) τ
-  -- its passes and states are as above, and so is each analysis of a loop inside it
+  -- all else is as for every loop, from the starting state
   pub start : State
   pub started : answers.admitted ws n u cs ≡ Gives start
   pub loop : VisitHolds (record { n = n; unroll = u }) (record { unroll = unroll; event = event; body = body; place = 1; from = start }) l
-  pub loops : EachLoop (record { n = n; unroll = u }) (While unroll event body then done) start
 
 -- ---- all of it
 
@@ -118,21 +109,27 @@ pub record Certainty : Type 0 where
   pub analysed : (ws : List ℕ) (n : ℕ) (cs : List Cell) (u : ℕ) (t : State) → length cs ≡ 64 → answers.analysed ws n cs u ≡ Gives t → Covers ws n cs u t
   pub looped : (ws : List ℕ) (n : ℕ) (cs : List Cell) (u : ℕ) (l : Looped) → length cs ≡ 64 → answers.looped ws n cs u ≡ Gives l → LoopCovers ws n cs u l
   pub ran : (ws : List ℕ) (o : Outcome) → answers.ran ws ≡ Gives o → Covers ws (o .n) states.zeros 0 (o .state)
-  -- the analysis of any loop within the limits, from any state of n variables, whether or not the rules come to it
-  pub each-loop : (g : Setting) (deep loops : ℕ) (v : Visit) (l : Looped) → g .n ≤ 64 → EventIn (g .n) deep (v .event) → StatementsIn (g .n) deep loops (v .body) → Fit (g .n) (v .from) →
+  -- each time that the rules, going over a program from its starting state, come to a loop and analyse it, also an inner one
+  pub each-loop : (ws : List ℕ) (n : ℕ) (cs : List Cell) (u : ℕ) (p : IsProgram n ws) (start : State) (v : Visit) (l : Looped) → length cs ≡ 64 → answers.admitted ws n u cs ≡ Gives start →
+      ListVisits (record { n = n; unroll = u }) (p .tree) 1 start v → analysed-at (record { n = n; unroll = u }) v ≡ Gives l → VisitHolds (record { n = n; unroll = u }) v l
+  -- and any loop within the limits, from any state of n variables, whether or not the rules come to it
+  pub any-loop : (g : Setting) (deep loops : ℕ) (v : Visit) (l : Looped) → g .n ≤ 64 → EventIn (g .n) deep (v .event) → StatementsIn (g .n) deep loops (v .body) → Fit (g .n) (v .from) →
       analysed-at g v ≡ Gives l → VisitHolds g v l
-  -- a list that the trace does not name is dead, and so is one whose byte is 0 among the marks
-  pub entered : (ws : List ℕ) (n : ℕ) (cs : List Cell) (u : ℕ) (t : State) (place : ℕ) → length cs ≡ 64 → answers.analysed ws n cs u ≡ Gives t →
-      ranges.has (answers.entered ws n cs u) place ≡ false → Dead ws n cs place
-  pub marked : (ws : List ℕ) (n : ℕ) (cs : List Cell) (u : ℕ) (t : State) (marks : List ℕ) (place : ℕ) → length cs ≡ 64 → answers.analysed ws n cs u ≡ Gives t →
-      length ws ≤ length marks → getD (trace.mark (answers.entered ws n cs u) marks) place 0 ≡ 0 → Dead ws n cs place
-  -- the four counts of a loop's analysis together are the number of its passes
-  pub counted : (n : ℕ) (pass : State → Answer Pass) (exit : State → Answer State) (u : ℕ) (s : State) (l : Looped) → rules.loop n pass exit u s ≡ Gives l →
-      length (trace.loop n pass (λ _. 0 ∷ []) exit u s) ≡ l .searched + l .unrolls + l .joined + l .widened
+  -- such a loop's body is gone over at most 201 + U + 2n times, also where the analysis refuses: the trace of its passes, each written down as one place, is no longer
+  pub gone-over : (g : Setting) (deep loops : ℕ) (v : Visit) → g .n ≤ 64 → EventIn (g .n) deep (v .event) → StatementsIn (g .n) deep loops (v .body) → Fit (g .n) (v .from) →
+      length (trace.loop (g .n) (pass-at g v) (λ _. v .place ∷ []) (exit-at g v) (rules.turns g (v .unroll)) (v .from)) ≤ 201 + rules.turns g (v .unroll) + 2 * g .n
+  -- where it answers, its four counts together are the number of its passes
+  pub counted : (n : ℕ) (pass : State → Answer Pass) (exit : State → Answer State) (u : ℕ) (s : State) (l : Looped) (place : ℕ) → rules.loop n pass exit u s ≡ Gives l →
+      length (trace.loop n pass (λ _. place ∷ []) exit u s) ≡ l .searched + l .unrolls + l .joined + l .widened
   -- a loop's analysis looks at its pass at no state but a `Head`, a normalize at its body at none but a `Point`: so no visit is missed
   pub heads : (n : ℕ) (pass other : State → Answer Pass) (exit : State → Answer State) (u : ℕ) (s : State) → ((h : State) → Head n pass s h → pass h ≡ other h) →
       rules.loop n pass exit u s ≡ rules.loop n other exit u s
   pub points : (n : ℕ) (body other : State → Answer State) (at : ℕ) (vs : List ℕ) (s : State) → ((h : State) → Point vs s h → body h ≡ other h) →
       rules.normalized n body at vs s ≡ rules.normalized n other at vs s
+  -- a list that the trace does not name is dead, and so is one whose byte is 0 among the marks
+  pub entered : (ws : List ℕ) (n : ℕ) (cs : List Cell) (u : ℕ) (t : State) (place : ℕ) → length cs ≡ 64 → answers.analysed ws n cs u ≡ Gives t →
+      ranges.has (answers.entered ws n cs u) place ≡ false → Dead ws n cs place
+  pub marked : (ws : List ℕ) (n : ℕ) (cs : List Cell) (u : ℕ) (t : State) (marks : List ℕ) (place : ℕ) → length cs ≡ 64 → answers.analysed ws n cs u ≡ Gives t →
+      length ws ≤ length marks → getD (trace.mark (answers.entered ws n cs u) marks) place 0 ≡ 0 → Dead ws n cs place
   -- a draw takes just the numbers of its range
   pub draws : (d : Draw) (x : ℕ) → Takes d x ↔ (x ∈ rules.drawn d)

@@ -12,7 +12,7 @@ use Rattle.states.specs.States as states
 use Rattle.paper.specs.Tree.{Draw, Dirac, Bernoulli, BernoulliVarProb, BinomialVarTrials, Binomial, Categorical, NegBinomialVarSuccesses, NegBinomial, Geometric, Poisson, PoissonVarRate, Uniform}
 use Rattle.paper.specs.Tree.{Event, InSet, VarComparison, DataFromDist, Complement, Intersection, Events, none, _also_}
 use Rattle.paper.specs.Tree.{Addend, Nought, Times, Unroll}
-use Rattle.paper.specs.Tree.{Statement, Sample, Assign, Decrement, IfThenElse, While, Fail, Normalize, Statements, done, _then_}
+use Rattle.paper.specs.Tree.{Statement, Sample, Assign, Decrement, IfThenElse, While, Normalize, Statements, done, _then_}
 
 infix 20 _∈_
 -- what each variable holds

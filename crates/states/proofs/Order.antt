@@ -15,6 +15,7 @@ use Rattle.states.specs.States as states
 use Rattle.states.specs.States.{Fit}
 use Rattle.states.proofs.Cells.{cell-at, at, each-at, every-at, every-make}
 use Rattle.states.proofs.Fits.{state, alike, fit-join}
+use Rattle.states.proofs.Proper.{Proper}
 
 module _ (n : ℕ) (small : n ≤ 64) where
   -- ---- same is equality
@@ -54,7 +55,7 @@ module _ (n : ℕ) (small : n ≤ 64) where
       go true true cs ds f g = (λ h l. (refl, λ v k. every-at states.within-cells n v cs ds h k (omega arith) (omega arith)), λ h. every-make states.within-cells n cs ds (h refl .1))
 
   -- the same in values, where each start is at most its end
-  pub within-holds : (s t : State) → Fit n s → Fit n t → ((v : ℕ) → v < n → laws.Proper (states.get s v)) →
+  pub within-holds : (s t : State) → Fit n s → Fit n t → Proper n s →
       (states.within n s t ≡ true)
       ↔ (s .live ≡ true → (t .live ≡ true) × ((v : ℕ) → v < n → (x : ℕ) → ranges.holds (states.get s v) x ≡ true → ranges.holds (states.get t v) x ≡ true))
   within-holds s t f g proper = (
