@@ -1,6 +1,6 @@
 -- One equation for each way the code goes, from the words of a draw or an event to what the rules say of it. Places are variables.
 use mathlib.Core.Path.{_≡_, refl, ap, sym, _∙_}
-use mathlib.Core.Bool.{Bool, true, false}
+use mathlib.Core.Bool.{true, false}
 use mathlib.Core.List.{List}
 use Prim.Native.Nat.{ℕ, _+_, _-_, _<_, _≤_}
 use native.Mathlib.Omega.{arith}
@@ -12,17 +12,17 @@ use Rattle.ranges.specs.declared.Range.{Range}
 use Rattle.ranges.specs.declared.Range.the-variants.{Empty, Span}
 use Rattle.ranges.specs.Ranges as ranges
 use Rattle.states.specs.Answers.{Answer, Gives, Refuses, and-then}
-use Rattle.states.specs.States as states
 use Rattle.states.specs.declared.State.{State}
 use Rattle.states.specs.declared.Verdict.the-variants.{Good, Refused}
-use Rattle.paper.specs.Code as code
+use Rattle.states.specs.States as states
 use Rattle.paper.specs.Limits.{DrawIn}
-use Rattle.paper.specs.Rules as rules
 use Rattle.paper.specs.Tree.{Draw, Dirac, Bernoulli, BernoulliVarProb, BinomialVarTrials, Binomial, Categorical, NegBinomialVarSuccesses, NegBinomial, Geometric, Poisson, PoissonVarRate, Uniform}
 use Rattle.paper.specs.Tree.{Event, InSet, VarComparison, DataFromDist, Complement, Intersection, Events, none, _also_}
-use Rattle.words.specs.Parts.{Begins, conjunction, DrawIs, EventsWithin}
+use Rattle.paper.specs.Code as code
+use Rattle.paper.specs.Rules as rules
+use Rattle.words.specs.Parts.{Begins, conjunction, DrawIs, EventIs, EventsWithin}
 use Rattle.words.proofs.Parts.{begins-whole, begins-at, begins-head, begins-tail, part-is}
-use Rattle.words.proofs.Nodes.{draw-of, draw-size, draw-is, draw-words, event-some, event-ends, NextEventAt, next-event-here, no-event-here}
+use Rattle.words.proofs.Nodes.{draw-of, draw-size, draw-is, draw-words, draw-some, event-some, event-ends, SetAt, ComplementAt, IntersectionAt, NextEventAt, next-event-here, no-event-here}
 use Rattle.words.proofs.Bounds.{draw-bounds, next-event-bounds}
 use Rattle.events.specs.Sided.{sided}
 use Rattle.events.specs.declared.Sides.{Sides}
@@ -30,6 +30,9 @@ use Rattle.events.specs.declared.Sides.{Sides}
 -- ---- draws, of which the words are one whole
 
 module _ {ws : List ℕ} where
+  pub draw-filled : {n : ℕ} → DrawIs n ws → 0 < length ws
+  draw-filled p = omega (arith, ap length (p .is), draw-some (p .tree))
+
   module _ {n : ℕ} (kind : ℕ) (p : DrawIs n ws) (k : getD ws 0 0 ≡ kind) where
     pub draw-long : length ws ≡ draw-size kind
     draw-long = ap length (p .is) ∙ draw-words kind (p .tree) (begins-whole (p .is)) k
@@ -88,6 +91,22 @@ turned r = record { verdict = r .verdict; yes = r .no; no = r .yes }
 pub turned-sided : (a : Answer rules.Sides) → turned (sided a) ≡ sided (and-then a (λ t. Gives (rules.exchanged t)))
 turned-sided (Gives t) = refl
 turned-sided (Refuses k p) = refl
+
+-- ---- the parts of an event that the words are
+
+module _ {ws : List ℕ} where
+  pub event-filled : {n : ℕ} → EventIs n ws → 0 < length ws
+  event-filled p = omega (arith, ap length (p .is), event-some (p .tree))
+
+  module _ {e : Event} (h : ws ≡ code.event e) where
+    pub set-part : (x : SetAt ws 0 e) → take (length ws - 3) (drop 3 ws) ≡ x .values
+    set-part x = part-is (length ws - 3) (x .values-are) (omega (arith, ap length h, x .size))
+
+    pub complement-part : (x : ComplementAt ws 0 e) → take (length ws - 1) (drop 1 ws) ≡ code.event (x .event)
+    complement-part x = part-is (length ws - 1) (x .event-is) (omega (arith, ap length h, x .size))
+
+    pub intersection-part : (x : IntersectionAt ws 0 e) → take (length ws - 1) (drop 1 ws) ≡ conjunction (x .events)
+    intersection-part x = part-is (length ws - 1) (x .events-are) (omega (arith, ap length h, x .size))
 
 -- ---- event 1
 

@@ -6,7 +6,6 @@ ghost use Rattle.paper.specs.Code as code;
 ghost use Rattle.paper.specs.Rules as rules;
 ghost use Rattle.paper.specs.Tree.{Draw};
 ghost use Rattle.words.specs.Parts.{DrawIs};
-ghost use Prim.Native.Nat.{ℕ};
 
 // From a start below an end; an empty interval is Empty.
 fn below(start: u32, end: u32) -> Range
@@ -18,14 +17,14 @@ fn below(start: u32, end: u32) -> Range
     Range::Empty
 }
 
+// The words are checked: one draw whole, within the limits over n variables.
 pub fn drawn(words: &[u64], n: usize) -> Range
     requires { ⌜ DrawIs n (now words) ⌝ }
     ensures { λ r. ⌜ ((d : Draw) → now (words .entry) ≡ code.draw d → r ≡ rules.drawn d) ⌝ }
 {
     let kind = words[0];
     if kind == 1 {
-        let point = (words[1] / words[2]) as u32;
-        return Range::Span(point, End::At(point));
+        return ranges::point((words[1] / words[2]) as u32);
     }
     if kind == 2 {
         return Range::Span(0, End::At(1));
@@ -42,5 +41,5 @@ pub fn drawn(words: &[u64], n: usize) -> Range
     if kind == 12 {
         return below(words[1] as u32, words[2] as u32);
     }
-    Range::Span(0, End::Open)
+    ranges::naturals()
 }

@@ -56,7 +56,7 @@ fn cut(values: &[u64], at: usize, variable: usize, state: State) -> Sides
     }
 }
 
-// Both sides of the event that the words are; the first of them stands at `base` in the program.
+// Both sides of the event that the words are, checked over n variables; the first of them stands at `base` in the program.
 pub fn sides(words: &[u64], base: usize, n: usize, state: State) -> Sides
     requires { ⌜ EventIs n (now words) ⌝ }
     requires { ⌜ n ≤ 64 ⌝ }

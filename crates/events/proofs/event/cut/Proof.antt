@@ -1,23 +1,19 @@
-use Rattle.events.proofs.Steps.{put-span, put-none, cut-none, cut-over, cut-both}
+-- `cut` meets its contract: each side is what the rules put, by whether the range that is left is Empty.
+use mathlib.Core.Logic.{⊎-elim}
+use mathlib.Core.Path.{_≡_, ap, sym, _∙_}
+use native.Mathlib.Omega.{arith}
+use lib.ListN.{getD}
+use borrow.Author.Needs.{needs}
+use Rattle.ranges.specs.declared.Bounded.{Bounded}
+use Rattle.ranges.specs.declared.Range.{Range}
+use Rattle.ranges.specs.Ranges as ranges
 use Rattle.states.proofs.Passed.{state-long}
 use Rattle.states.proofs.Cells.{there}
 use Rattle.states.specs.declared.Cell.{Cell}
 use Rattle.states.specs.States as states
-use Rattle.ranges.specs.declared.Bounded.{Bounded}
-use Rattle.ranges.specs.declared.Range.{Range}
-use Rattle.ranges.specs.Ranges as ranges
-use lib.ListN.{getD}
-use native.Mathlib.Omega.{arith}
-use mathlib.Core.Logic.{⊎-elim}
-use mathlib.Core.Path.{_≡_, ap, sym, _∙_}
-use borrow.Author.Needs.{needs}
+use Rattle.events.proofs.Steps.{put-span, put-none, cut-none, cut-over, cut-both}
 use Rattle.events.proofs.event.cut.Statement.{statement}
 use Rattle.events.proofs.event.cut.Tie as tie
-use Rattle.events.proofs.event.cut.Reads as reads
-use Rattle.events.proofs.event.cut.Lts as lts
-use Rattle.ranges.proofs.sets.remove.Reads as remove-reads
-use Rattle.ranges.proofs.sets.retain.Reads as retain-reads
-use Rattle.states.proofs.empty.Reads as empty-reads
 
 -- what the rules keep and remove
 abbrev kept : tie.Start → Range
@@ -49,95 +45,74 @@ yes-is c =
     (c .match2 .came)
     ∙ ap (states.put state variable) kept-is
 
--- src/event.rt:29:20
 mul-cell : tie.Need-mul-cell
 mul-cell c = search needs
 
--- src/event.rt:29:20
 element-copy-out-cell : tie.Need-element-copy-out-cell
 element-copy-out-cell c = search needs
 
--- src/event.rt:31:13
 remove-requires : tie.Need-remove-requires
 remove-requires c κs = search needs
 
--- src/event.rt:32:25
 enum-known-removed : tie.Need-enum-known-removed
 enum-known-removed c = search needs
 
--- src/event.rt:33:17
 enum-told : tie.Need-enum-told
 enum-told c = search needs
 
--- src/event.rt:33:17
 empty-requires : tie.Need-empty-requires
 empty-requires c κs = search needs
 
--- src/event.rt:34:13
 returns : tie.Need-returns
 returns c =
     let start = c .before .before .before .before .before .before .before in
     cut-over (start .args .at) (start .args .t4) (start .args .variable) (start .args .values .now) (removed-is (c .before .before .before) ∙ c .before .enum-told .given .1) (c .before .before .before .before .before .if1 .taken) (c .empty .ensures)
 
--- src/event.rt:40:13
 retain-requires : tie.Need-retain-requires
 retain-requires c κs = search needs
 
--- src/event.rt:42:19
 enum-told-2 : tie.Need-enum-told-2
 enum-told-2 c = search needs
 
--- src/event.rt:42:19
 empty-requires-2 : tie.Need-empty-requires-2
 empty-requires-2 c κs = search needs
 
--- src/event.rt:44:35
 enum-told-3 : tie.Need-enum-told-3
 enum-told-3 c = search needs
 
--- src/event.rt:44:13
 mul-t23 : tie.Need-mul-t23
 mul-t23 c = search needs
 
--- src/event.rt:44:13
 element-set-from-yes : tie.Need-element-set-from-yes
 element-set-from-yes c = search needs
 
--- src/event.rt:47:18
 enum-told-4 : tie.Need-enum-told-4
 enum-told-4 c = search needs
 
--- src/event.rt:47:18
 empty-requires-3 : tie.Need-empty-requires-3
 empty-requires-3 c κs = search needs
 
--- src/event.rt:49:34
 enum-told-5 : tie.Need-enum-told-5
 enum-told-5 c = search needs
 
--- src/event.rt:49:13
 mul-t28 : tie.Need-mul-t28
 mul-t28 c = search needs
 
--- src/event.rt:49:13
 element-set-from-no : tie.Need-element-set-from-no
 element-set-from-no c = search needs
 
--- src/event.rt:22:1
 returns-2 : tie.Need-returns-2
 returns-2 c =
     let start = c .before .before .before .before .before .before .before .before .before .before .before .before in
     cut-both (start .args .at) (start .args .t4) (start .args .variable) (start .args .values .now) (removed-is (c .before .before .before .before .before .before .before .before) ∙ c .before .before .before .before .before .before .removed .given .1) (yes-is (c .before .before .before))
     (c .empty3 .ensures ∙ put-none (start .args .t4) (start .args .variable) (c .before .before .before .before .before .before .before .before .before .before .if1 .taken) (c .before .enum-told4 .given .1))
 
--- src/event.rt:22:1
 returns-3 : tie.Need-returns-3
 returns-3 c =
     let start = c .before .before .before .before .before .before .before .before .before .before .before in
     cut-both (start .args .at) (start .args .t4) (start .args .variable) (start .args .values .now) (removed-is (c .before .before .before .before .before .before .before) ∙ c .before .before .before .before .before .removed .given .1) (yes-is (c .before .before))
     (put-span (start .args .t4) (start .args .variable) (c .before .before .before .before .before .before .before .before .before .if1 .taken) (c .enum-told5 .given .1))
 
--- src/event.rt:22:1
 returns-4 : tie.Need-returns-4
 returns-4 c =
     let start = c .before .before in
