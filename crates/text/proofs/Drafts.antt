@@ -5,12 +5,16 @@ use mathlib.Core.List.{List, [], _∷_, _++_}
 use native.Mathlib.Omega.{arith}
 use native.Mathlib.Numerals.{add-one}
 use lib.ListN.{length, getD, take, drop, set, length-append}
-use lib.Seq.{sets, length-sets, sets-eq, take-suc, take-all}
+use lib.Seq.{sets, length-sets, sets-eq, take-suc, take-all, take-at}
 use Rattle.text.specs.Draft.{Put}
 
 sets-append : (l : List ℕ) (i : ℕ) (a b : List ℕ) → sets (sets l i a) (i + length a) b ≡ sets l i (a ++ b)
 sets-append l i [] b = let e : i + 0 ≡ i = omega arith in ap (λ (k : ℕ). sets l k b) e
 sets-append l i (x ∷ a) b = let e : i + suc (length a) ≡ suc i + length a = omega arith in ap (λ (k : ℕ). sets (sets (set l i x) (suc i) a) k b) e ∙ sets-append (set l i x) (suc i) a b
+
+-- nothing put
+pub put-none : (d : List ℕ) (at : ℕ) → Put d at [] at d
+put-none d at = record { place = omega arith; draft = refl }
 
 -- one byte stored
 pub put-one : (d : List ℕ) (at x : ℕ) → Put d at (x ∷ []) (at + 1) (set d at x)
@@ -40,6 +44,9 @@ put-next {d} {e} {at} s i h x = rw (add-one, take-suc s i 0) (record { place = o
 pub put-all : {d e : List ℕ} {at : ℕ} (s : List ℕ) (i : ℕ) → i ≤ length s → length s ≤ i → Put d at (take i s) (at + i) e → Put d at s (at + i) e
 put-all {d} {e} {at} s i h l x = subst (λ (t : List ℕ). Put d at t (at + i) e) (take-all i s l) x
 
--- all that were put from the front: they stand there, and the rest is as it was
+-- bytes put from the front stand there, and the rest is as it was
 pub put-front : {d e : List ℕ} {p : ℕ} (s : List ℕ) → length s ≤ length d → Put d 0 s p e → e ≡ s ++ drop (length s) d
 put-front {d} s h x = let e : 0 + length s ≡ length s = omega arith in x .draft ∙ sets-eq s d 0 (omega arith) ∙ ap (λ (k : ℕ). s ++ drop k d) e
+
+pub put-taken : {d e : List ℕ} {p : ℕ} (s : List ℕ) → p ≤ length d → Put d 0 s p e → take p e ≡ s
+put-taken {d} {e} {p} s h x = ap (take p) (put-front s (omega (arith, x .place)) x) ∙ take-at s (drop (length s) d) p (omega (arith, x .place))

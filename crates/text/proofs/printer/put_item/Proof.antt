@@ -1,3 +1,4 @@
+use Rattle.text.proofs.Puts.{item-first, item-next}
 use borrow.Author.Needs.{needs}
 use Rattle.text.proofs.printer.put_item.Statement.{statement}
 use Rattle.text.proofs.printer.put_item.Tie as tie
@@ -16,7 +17,7 @@ same-length c = search needs
 
 -- src/printer.rt:84:9
 returns : tie.Need-returns
-returns c = ?
+returns c = item-first _ (c .before .before .before .before .if1 .taken) (c .before .before .put-range .ensures)
 
 -- src/printer.rt:86:37
 slice-aggregate-put-bytes : tie.Need-slice-aggregate-put-bytes
@@ -36,7 +37,7 @@ same-length-2 c = search needs
 
 -- src/printer.rt:78:1
 returns-2 : tie.Need-returns-2
-returns-2 c = ?
+returns-2 c = item-next _ _ (c .before .before .before .before .before .before .before .before .before .if1 .left) (c .before .before .before .before .before .before .put-bytes .ensures) (c .before .before .put-range2 .ensures)
 
 pub put-item-spec : {M : Type 1} → statement M
 put-item-spec =
