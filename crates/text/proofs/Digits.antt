@@ -1,6 +1,5 @@
 -- Numbers in decimal: what is printed reads back by the grammar's own `int`, and nothing else does.
 use mathlib.Core.Path.{_≡_, refl, sym, ap, ap₂, _∙_, subst}
-use mathlib.Core.Bool.{Bool, true, false}
 use mathlib.Core.List.{List, [], _∷_, _++_, append-assoc, append-nil}
 use Prim.Native.Nat.{ℕ, zero, suc, _+_, _*_, _-_, _/_, _%_, _^_, _≤_, _<_}
 use native.Mathlib.Nat.{div-lt-iff-lt-mul, pow-suc}
@@ -9,11 +8,11 @@ use native.Mathlib.Decide.{decLe}
 use lib.Dec.{lit<}
 use lib.ListN.{length, length-append}
 use lib.Seq.{append-snoc}
-use borrow.Author.Tests.{ltb-true, ltb-false, lt-ltb, le-ltb}
+use borrow.Author.Tests.{lt-ltb, le-ltb}
+use Rattle.text.specs.declared.Mode.the-variants.{Start}
 use Rattle.text.specs.Grammar.{digit-is, _then_, both, left, right, many, none, next, digit1-9, DIGIT, int, decimal, number, number-is, value-separator, Text, that, with}
 use Rattle.text.specs.Line.{ascii, last-digits, digits, Writes}
 use Rattle.text.specs.Machine.{contents, holds}
-use Rattle.text.specs.declared.Mode.the-variants.{Start}
 use Rattle.text.proofs.Complete.{complete}
 
 -- a number of one digit, and one of more

@@ -6,7 +6,7 @@ use Prim.Native.Nat.{ℕ, _+_, _*_, _-_, _≤_, _<_}
 use native.Mathlib.Omega.{arith}
 use native.Mathlib.Decide.{decLe}
 use lib.Dec.{leb, eqb}
-use lib.ListN.{length, getD, take, List·getD-map}
+use lib.ListN.{getD, take, List·getD-map}
 use lib.Seq.{getD-take, ext-getD}
 use borrow.Author.Tests.{le-leb, eqb-true}
 use Rattle.ranges.specs.declared.End.{End}
@@ -16,12 +16,12 @@ use Rattle.ranges.specs.declared.Range.the-variants.{Empty, Span}
 use Rattle.ranges.specs.Ranges.{point}
 use Rattle.states.specs.declared.Cell.{Cell}
 use Rattle.states.specs.declared.State.{State}
-use Rattle.states.specs.States as states
 use Rattle.states.specs.States.{Fit}
 use Rattle.states.specs.Answers.{Answer, Gives, Refuses, answered}
+use Rattle.states.specs.States as states
 use Rattle.text.specs.Answers.{of-answer}
 use Rattle.text.specs.Grammar.{digit-is, both, left, right, many, none, next, DIGIT, int, decimal}
-use Rattle.text.specs.Line.{ascii, digits, Writes, to-end, range, further, joined, cell, refusal, line}
+use Rattle.text.specs.Line.{ascii, digits, to-end, range, further, joined, cell, refusal, line}
 use Rattle.text.proofs.Digits.{writes}
 
 -- ---- numbers: digits read from the front, and what is left behind them
@@ -64,9 +64,10 @@ reads-digits x t = let w = writes x in subst (λ (m : ℕ). Reads 0 m (digits x 
 digits-once : (x y : ℕ) (t u : List ℕ) → Stops t → Stops u → digits x ++ t ≡ digits y ++ u → (x ≡ y) × (t ≡ u)
 digits-once x y t u p q e =
     let a = reads-digits x t in
-    let b = reads-digits y u in
-    ( sym (a .value ∙ p .value x) ∙ ap (value-of 0) e ∙ b .value ∙ q .value y,
-      sym (a .rest ∙ p .rest) ∙ ap rest-of e ∙ b .rest ∙ q .rest )
+    let b = reads-digits y u in (
+      sym (a .value ∙ p .value x) ∙ ap (value-of 0) e ∙ b .value ∙ q .value y,
+      sym (a .rest ∙ p .rest) ∙ ap rest-of e ∙ b .rest ∙ q .rest,
+    )
 
 -- ---- ranges
 

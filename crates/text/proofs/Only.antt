@@ -1,16 +1,16 @@
 -- No two answers satisfy the contract of `read`, nor that of `line`.
 use mathlib.Core.Path.{_≡_, refl, sym, ap, _∙_}
-use Prim.Native.Nat.{ℕ}
 use mathlib.Core.List.{List}
+use Prim.Native.Nat.{ℕ}
 use native.Mathlib.Omega.{arith}
 use Rattle.states.specs.declared.Answer as code
-use Rattle.text.specs.Answers.{of-reading, of-printed, of-answer, Outcome, leaves}
-use Rattle.text.specs.Says.{Says}
-use Rattle.text.specs.Line as lines
 use Rattle.text.specs.declared.Reading.{Reading}
 use Rattle.text.specs.declared.Reading.the-variants.{Read, Refused}
 use Rattle.text.specs.declared.Printed.{Printed}
 use Rattle.text.specs.declared.Printed.the-variants.{Wrote, Short}
+use Rattle.text.specs.Answers.{of-reading, of-printed, of-answer, Outcome, leaves}
+use Rattle.text.specs.Says.{Says}
+use Rattle.text.specs.Line as lines
 use Rattle.text.proofs.Agree.{only}
 
 reading-once : (r q : Reading) → of-reading r ≡ of-reading q → r ≡ q

@@ -1,28 +1,25 @@
--- Facts about the machine, on plain values.
+-- The two passes over a text, turn by turn, and the outcome that each way of `read` leads to.
 use mathlib.Core.Path.{_≡_, refl, sym, ap, ap₂, _∙_, subst}
 use mathlib.Core.Logic.{_⊎_, inl, inr}
-use Prim.Native.Nat.{ℕ, suc, _+_, _*_, _-_, _^_, _≤_, _<_}
 use mathlib.Core.Bool.{Bool, true, false, cond}
-use lib.Dec.{ltb, leb, eqb}
-use borrow.Author.Tests.{lt-ltb, le-ltb, eq-eqb, ne-eqb}
+use mathlib.Core.List.{List, _++_, append-nil}
+use Prim.Native.Nat.{ℕ, suc, _+_, _≤_, _<_}
 use native.Mathlib.Omega.{arith}
-use mathlib.Core.List.{List, [], _∷_, _++_}
 use native.Mathlib.Numerals.{add-one}
-use lib.ListN.{length, getD, take, drop, set, length-set}
-use mathlib.Core.List.{append-nil}
-use lib.ListN.{take-append-drop}
+use lib.Dec.{ltb}
+use lib.ListN.{length, getD, take, drop, set, length-set, take-append-drop}
 use lib.Seq.{drop-cons, drop-length, take-suc-set, drop-set-lt, append-snoc}
-use Rattle.text.specs.Machine.{class-of, more, step, Contents, holds, breaks, later, push, whole, at-end, follow, contents, found, put, FitsIn, settle, outcome}
+use borrow.Author.Tests.{lt-ltb, le-ltb, ne-eqb}
 use Rattle.states.specs.Answers.{Gives}
-use Rattle.text.specs.Answers.{leaves, refused}
 use Rattle.text.specs.declared.Found.{Found}
 use Rattle.text.specs.declared.Found.the-variants.{Holds, Breaks}
-use Rattle.text.specs.declared.Class.{Class}
-use Rattle.text.specs.declared.Class.the-variants.{Blank, Zero, Digit, Open, Close, Comma, Other}
+use Rattle.text.specs.declared.Class.the-variants.{Digit, Other}
 use Rattle.text.specs.declared.Mode.{Mode}
 use Rattle.text.specs.declared.Mode.the-variants.{Start, Opened, Digits, Ended, Parted, Closed}
 use Rattle.text.specs.declared.Move.{Move}
 use Rattle.text.specs.declared.Move.the-variants.{Stop, To, Push}
+use Rattle.text.specs.Machine.{class-of, step, Contents, holds, breaks, later, push, whole, at-end, follow, contents, found, put, FitsIn, settle, outcome}
+use Rattle.text.specs.Answers.{leaves, refused, done}
 
 -- a byte that is none of the single ones
 pub class-rest : (b : ℕ)
@@ -31,7 +28,9 @@ pub class-rest : (b : ℕ)
 class-rest b w₁ w₂ w₃ w₄ z o c m =
     simp (ne-eqb b 0x20 w₁, ne-eqb b 0x09 w₂, ne-eqb b 0x0A w₃, ne-eqb b 0x0D w₄, ne-eqb b 0x30 z, ne-eqb b 0x5B o, ne-eqb b 0x5D c, ne-eqb b 0x2C m)
 
--- what the first pass answers after i bytes and n numbers
+-- ---- the first pass
+
+-- what it answers after i bytes and n numbers
 abbrev pub shift : ℕ → ℕ → Found → Found
 shift i n (Holds k) = Holds (n + k)
 shift i n (Breaks k) = Breaks (i + k)
@@ -84,7 +83,9 @@ pub scan-short : (t : List ℕ) (i n : ℕ) (m : Mode) → i ≤ length t → le
     → shift i n (found (contents (drop i t) m)) ≡ Breaks i
 scan-short t i n m a b e = scan-end t i n m a b ∙ rw e (ap Breaks (omega arith))
 
--- the second pass, after n numbers: the words with the rest behind the first n, and that there is room
+-- ---- the second pass
+
+-- after n numbers: the words with the rest behind the first n, and that there is room
 abbrev pub lay : ℕ → Contents → List ℕ → List ℕ
 lay n (holds vs) w = take n w ++ vs ++ drop (n + length vs) w
 lay n (breaks k) w = w
@@ -186,11 +187,24 @@ module _ {t w₀ w : List ℕ} {m : Mode} {n i : ℕ} (f : Filling t w₀ w m n 
       let e : contents (drop i t) m ≡ at-end m = ap (λ (k : ℕ). contents (drop k t) m) p ∙ ap (λ (l : List ℕ). contents l m) (drop-length t) in
       sym (f .lays ∙ ap (λ (r : Contents). lay n r w) e ∙ end-lay n m w (subst (λ (r : Contents). Room n r (length w)) e (f .room)))
 
+-- ---- what each way of `read` leads to
+
 pub too-long : (t w : List ℕ) → 65536 < length t → outcome t w ≡ refused 2 0 w
 too-long t w h = rw (lt-ltb _ _ h)
 
-short : (t w : List ℕ) → length t ≤ 65536 → outcome t w ≡ settle w (contents t Start)
-short t w h = rw (le-ltb _ _ h)
+pub not-long : (t w : List ℕ) → length t ≤ 65536 → outcome t w ≡ settle w (contents t Start)
+not-long t w h = rw (le-ltb _ _ h)
+
+pub settle-over : (w vs : List ℕ) → (8192 < length vs) ⊎ (length w < length vs) → settle w (holds vs) ≡ refused 2 0 w
+settle-over w vs (inl h) = rw (lt-ltb 8192 (length vs) h)
+settle-over w vs (inr h) = go (ltb 8192 (length vs))
+  where
+    go : (x : Bool) → cond x (refused 2 0 w) (cond (ltb (length w) (length vs)) (refused 2 0 w) (done vs w)) ≡ refused 2 0 w
+    go true = refl
+    go false = rw (lt-ltb (length w) (length vs) h)
+
+pub settle-done : (w vs : List ℕ) → length vs ≤ 8192 → length vs ≤ length w → settle w (holds vs) ≡ done vs w
+settle-done w vs h l = rw (le-ltb 8192 (length vs) h, le-ltb (length w) (length vs) l)
 
 clash : {n k : ℕ} → Holds n ≡ Breaks k → ⊥
 clash e = let z : _≡_ {A = ℕ} 0 1 = cc in omega arith
@@ -199,22 +213,12 @@ settle-breaks : (w : List ℕ) (r : Contents) (k : ℕ) → Breaks k ≡ found r
 settle-breaks w (holds vs) k e = absurd (clash (sym e))
 settle-breaks w (breaks j) k e = let p : j ≡ k = cc in ap (λ (x : ℕ). refused 1 x w) p
 
-settle-many : (w : List ℕ) (r : Contents) (n : ℕ) → Holds n ≡ found r → 8192 < n → settle w r ≡ refused 2 0 w
-settle-many w (holds vs) n e h =
-    let p : n ≡ length vs = cc in
-    rw (lt-ltb 8192 (length vs) (omega arith))
+settle-many : (w : List ℕ) (r : Contents) (n : ℕ) → Holds n ≡ found r → (8192 < n) ⊎ (length w < n) → settle w r ≡ refused 2 0 w
+settle-many w (holds vs) n e h = let p : n ≡ length vs = cc in settle-over w vs (subst (λ (k : ℕ). (8192 < k) ⊎ (length w < k)) p h)
 settle-many w (breaks j) n e h = absurd (clash e)
 
-settle-room : (w : List ℕ) (r : Contents) (n : ℕ) → Holds n ≡ found r → n ≤ 8192 → length w < n → settle w r ≡ refused 2 0 w
-settle-room w (holds vs) n e h l =
-    let p : n ≡ length vs = cc in
-    rw (le-ltb 8192 (length vs) (omega arith), lt-ltb (length w) (length vs) (omega arith))
-settle-room w (breaks j) n e h l = absurd (clash e)
-
 settle-read : (w : List ℕ) (r : Contents) (n : ℕ) → Holds n ≡ found r → n ≤ 8192 → n ≤ length w → settle w r ≡ leaves (Gives n) (put r w)
-settle-read w (holds vs) n e h l =
-    let p : n ≡ length vs = cc in
-    rw (le-ltb 8192 (length vs) (omega arith), le-ltb (length w) (length vs) (omega arith), p)
+settle-read w (holds vs) n e h l = let p : n ≡ length vs = cc in rw p (settle-done w vs (omega arith) (omega arith))
 settle-read w (breaks j) n e h l = absurd (clash e)
 
 pub found-fits : (r : Contents) (n l : ℕ) → Holds n ≡ found r → n ≤ l → FitsIn r l
@@ -223,13 +227,10 @@ found-fits (breaks j) n l e h = absurd (clash e)
 
 module _ (t w : List ℕ) (s : length t ≤ 65536) where
   pub out-breaks : (k : ℕ) → Breaks k ≡ found (contents t Start) → outcome t w ≡ refused 1 k w
-  out-breaks k e = short t w s ∙ settle-breaks w (contents t Start) k e
+  out-breaks k e = not-long t w s ∙ settle-breaks w (contents t Start) k e
 
-  pub out-many : (n : ℕ) → Holds n ≡ found (contents t Start) → 8192 < n → outcome t w ≡ refused 2 0 w
-  out-many n e h = short t w s ∙ settle-many w (contents t Start) n e h
-
-  pub out-room : (n : ℕ) → Holds n ≡ found (contents t Start) → n ≤ 8192 → length w < n → outcome t w ≡ refused 2 0 w
-  out-room n e h l = short t w s ∙ settle-room w (contents t Start) n e h l
+  pub out-many : (n : ℕ) → Holds n ≡ found (contents t Start) → (8192 < n) ⊎ (length w < n) → outcome t w ≡ refused 2 0 w
+  out-many n e h = not-long t w s ∙ settle-many w (contents t Start) n e h
 
   pub out-read : (n : ℕ) → Holds n ≡ found (contents t Start) → n ≤ 8192 → n ≤ length w → outcome t w ≡ leaves (Gives n) (put (contents t Start) w)
-  out-read n e h l = short t w s ∙ settle-read w (contents t Start) n e h l
+  out-read n e h l = not-long t w s ∙ settle-read w (contents t Start) n e h l

@@ -1,9 +1,8 @@
 -- What each way of the printer puts is what the definition of the line says, and fits the room that was asked for it.
 use mathlib.Core.Path.{_≡_, refl, sym, ap, ap₂, _∙_, subst}
-use Prim.Native.Nat.{ℕ, zero, suc, _+_, _*_, _^_, _≤_, _<_}
 use mathlib.Core.List.{List, [], _∷_, _++_, map, map-append, append-assoc, append-nil}
+use Prim.Native.Nat.{ℕ, zero, suc, _+_, _*_, _^_, _≤_, _<_}
 use native.Mathlib.Omega.{arith}
-use lib.Dec.{eqb}
 use native.Mathlib.Numerals.{add-one}
 use lib.ListN.{length, getD, take, length-map}
 use lib.Seq.{take-suc, take-all, length-take-le}

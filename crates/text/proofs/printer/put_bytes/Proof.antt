@@ -1,8 +1,8 @@
 -- `put_bytes` meets its contract. The invariant: the first i bytes were put.
 use Prim.Native.Nat.{_+_, _≤_, _-_}
 use native.Mathlib.Omega.{arith}
-use borrow.Author.Needs.{needs}
 use lib.ListN.{length, take}
+use borrow.Author.Needs.{needs}
 use Rattle.text.specs.Draft.{Put}
 use Rattle.text.proofs.Drafts.{put-start, put-next, put-all, put-length}
 use Rattle.text.proofs.printer.put_bytes.Statement.{statement}
@@ -17,26 +17,11 @@ abbrev μ-loop : tie.MeasureT-loop
 loop-holds : tie.Need-loop-holds Inv-loop μ-loop
 loop-holds c = (search needs, put-start _ _)
 
-shared-slice-read-draft : tie.Need-shared-slice-read-draft Inv-loop μ-loop
-shared-slice-read-draft c = search needs
-
-add-draft : tie.Need-add-draft Inv-loop μ-loop
-add-draft c = omega arith
-
 slice-write-draft : tie.Need-slice-write-draft Inv-loop μ-loop
 slice-write-draft c = let e = put-length (c .before .before .loop .inv .1) in omega arith
 
-add-i : tie.Need-add-i Inv-loop μ-loop
-add-i c = search needs
-
-loop-less : tie.Need-loop-less Inv-loop μ-loop
-loop-less c = search needs
-
 loop-again : tie.Need-loop-again Inv-loop μ-loop
 loop-again c = (omega arith, put-next _ _ (c .before .loop-test .taken) (c .before .before .loop .inv .1))
-
-add-result : tie.Need-add-result Inv-loop μ-loop
-add-result c = omega arith
 
 same-length : tie.Need-same-length Inv-loop μ-loop
 same-length c = put-length (c .before .loop .inv .1)
@@ -48,15 +33,5 @@ pub put-bytes-spec : {M : Type 1} → statement M
 put-bytes-spec =
     tie.close
     (tie.spec
-    Inv-loop
-    μ-loop
-    loop-holds
-    shared-slice-read-draft
-    add-draft
-    slice-write-draft
-    add-i
-    loop-less
-    loop-again
-    add-result
-    same-length
-    returns)
+    Inv-loop μ-loop loop-holds (λ c. search needs) (λ c. omega arith) slice-write-draft (λ c. search needs) (λ c. search needs) loop-again
+    (λ c. omega arith) same-length returns)
