@@ -1,0 +1,5 @@
+//! Times genfer and Woolquern on the same programs.
+
+pub fn print() -> u64 {
+    0
+}
