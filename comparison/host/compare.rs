@@ -14,6 +14,8 @@ pub struct Judge {
 
 pub enum Verdict {
     Agree(Answer),
+    /// Only the model was asked: genfer has no such program, and the library is not here.
+    Alone(Answer),
     /// The program takes more steps than are allowed to one: nobody else is asked.
     TooLong,
     /// All answers, and which of them differ.
@@ -45,7 +47,9 @@ impl Judge {
         let judged = self
             .library_agrees(text, &answer)
             .and_then(|()| genfer_agrees(&answer));
+        let alone = !self.with_library && asks_genfer(&answer).is_none();
         match judged {
+            Ok(()) if alone => Verdict::Alone(answer),
             Ok(()) => Verdict::Agree(answer),
             Err(difference) => Verdict::Differ(self.all_answers(text, &answer, &difference)),
         }

@@ -4,7 +4,7 @@ use crate::answers::{Genfer, LoopEnd};
 use crate::translate;
 use genfer::number::take_trail;
 use genfer::ppl::{Program, Statement, Var};
-use genfer::semantics::support::{SupportTransformer, VarSupport};
+use genfer::semantics::support::SupportTransformer;
 use genfer::semantics::Transformer;
 use std::any::Any;
 use std::cell::Cell;

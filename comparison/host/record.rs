@@ -137,7 +137,7 @@ impl Record {
             return false;
         }
         match judge(text, steps) {
-            Verdict::Agree(answer) => {
+            Verdict::Agree(answer) | Verdict::Alone(answer) => {
                 self.lines += &format!("{}\n{}\n", String::from_utf8_lossy(text), line(&answer));
                 self.coverage.add(&answer);
                 self.seen.insert(text.to_vec())

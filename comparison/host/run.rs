@@ -1,6 +1,7 @@
 //! The comparison: all programs, in one run.
 
 use crate::arguments::Arguments;
+use crate::benchmark;
 use crate::cases::{CASES, PASSES};
 use crate::compare::{Judge, Verdict};
 use crate::coverage::Coverage;
@@ -23,6 +24,8 @@ struct Run {
     judge: Judge,
     passed: u64,
     failed: u64,
+    /// Programs that nobody but the model was asked about.
+    alone: u64,
     too_long: u64,
     coverage: Coverage,
 }
@@ -32,14 +35,19 @@ pub fn compare(arguments: &Arguments) -> u64 {
     let mut run = Run::new(Judge::of_document(STEPS));
     println!("seed {}; {}", arguments.seed, compared());
     run.cases();
-    run.short_lists(arguments.length);
-    run.random_programs(arguments);
-    run.long_programs(arguments);
-    println!("{}", run.coverage);
-    run.without_limits(arguments);
-    if run.too_long > 0 {
-        println!("left out as too long: {}", run.too_long);
+    if genfer_side::PRESENT || library::PRESENT {
+        run.short_lists(arguments.length);
+        run.random_programs(arguments);
+        run.long_programs(arguments);
+        println!("of the programs compared:\n{}", run.coverage);
     }
+    if genfer_side::PRESENT {
+        run.without_limits(arguments);
+    }
+    println!(
+        "not counted: {} that only the model answers here, {} that take too long",
+        run.alone, run.too_long
+    );
     println!("{} passed, {} failed", run.passed, run.failed);
     run.failed
 }
@@ -59,6 +67,7 @@ impl Run {
             judge,
             passed: 0,
             failed: 0,
+            alone: 0,
             too_long: 0,
             coverage: Coverage::default(),
         }
@@ -83,7 +92,7 @@ impl Run {
                 self.expect(&difference.text, &expected, &said);
             }
         }
-        println!("cases by hand: {} so far", self.passed);
+        println!("cases by hand: {}", self.passed);
     }
 
     fn short_lists(&mut self, length: usize) {
@@ -91,7 +100,7 @@ impl Run {
             self.check_words(words)
         });
         all_programs(&FEW_WORDS, length, &mut |words| self.check_words(words));
-        println!("with all short lists: {} so far", self.passed);
+        println!("with all short lists: {}", self.passed);
     }
 
     fn random_programs(&mut self, arguments: &Arguments) {
@@ -106,10 +115,10 @@ impl Run {
                 self.check(&spaced);
             }
         }
-        println!("with random programs: {} so far", self.passed);
+        println!("with random programs: {}", self.passed);
     }
 
-    /// Texts and word lists at the limits of their length.
+    /// Texts and word lists at the limits of their length, and the programs of the benchmark.
     fn long_programs(&mut self, arguments: &Arguments) {
         let mut random = Random::new(arguments.seed);
         for _ in 0..2 + arguments.count / 2_000 {
@@ -128,14 +137,14 @@ impl Run {
             text[length - 3..].copy_from_slice(b"[0]");
             self.check(&text);
         }
-        println!("with long programs: {} so far", self.passed);
+        for text in benchmark::texts() {
+            self.check(&text);
+        }
+        println!("with long programs: {}", self.passed);
     }
 
     /// Genfer against the model's rules beyond document 01's limits: nothing else differs there.
     fn without_limits(&mut self, arguments: &Arguments) {
-        if !genfer_side::PRESENT {
-            return;
-        }
         let mut random = Random::new(arguments.seed);
         let mut run = Run::new(Judge::lifted(STEPS));
         for _ in 0..arguments.count / 4 {
@@ -144,8 +153,9 @@ impl Run {
         }
         self.passed += run.passed;
         self.failed += run.failed;
+        self.alone += run.alone;
         self.too_long += run.too_long;
-        println!("with limits lifted: {} so far", self.passed);
+        println!("with limits lifted: {}", self.passed);
     }
 
     fn expect(&mut self, text: &str, expected: &str, said: &str) {
@@ -167,6 +177,7 @@ impl Run {
                 self.passed += 1;
                 self.coverage.add(&answer);
             }
+            Verdict::Alone(_) => self.alone += 1,
             Verdict::TooLong => self.too_long += 1,
             Verdict::Differ(_) => {
                 self.failed += 1;
