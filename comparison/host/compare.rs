@@ -2,7 +2,7 @@
 
 use crate::answers::Genfer;
 use crate::model::{self, Accepted, Answer, Limits, Outcome, Refusal};
-use crate::{genfer_side, library};
+use crate::{genfer_side, library, watch};
 
 /// Which limits hold, and how many steps the model may spend on a program.
 pub struct Judge {
@@ -40,6 +40,10 @@ impl Judge {
     }
 
     pub fn judge(&self, text: &[u8]) -> Verdict {
+        watch::over(text, || self.verdict(text))
+    }
+
+    fn verdict(&self, text: &[u8]) -> Verdict {
         let answer = model::of_text(text, &self.limits, self.steps);
         if answer.outcome == Outcome::TooLong {
             return Verdict::TooLong;
@@ -91,8 +95,7 @@ fn genfer_agrees(answer: &Answer) -> Result<(), String> {
     };
     let said = genfer_side::answer(&accepted.words);
     same("genfer's answer", said, expected(answer, accepted))?;
-    let trail = genfer_side::trail(&accepted.words);
-    same("genfer's order of work", trail, accepted.trail.clone())?;
+    trail_agrees(&genfer_side::trail(&accepted.words), &accepted.trail)?;
     last_loop_agrees(accepted)
 }
 
@@ -117,6 +120,15 @@ fn panic_message(refusal: &Refusal, words: &[u64]) -> String {
         ),
         _ => format!("nothing that explains refusal {} at a word {}", refusal.number, word),
     }
+}
+
+/// Both came by the same places in the same order. At a panic the last of them is the statement of
+/// the refusal's place, wherever its state is not empty.
+fn trail_agrees(genfer: &[u64], model: &[u64]) -> Result<(), String> {
+    let common = genfer.iter().zip(model).take_while(|(a, b)| a == b).count();
+    let next = |trail: &[u64]| trail.get(common).copied();
+    let what = format!("after {} places genfer's next", common);
+    same(&what, next(genfer), next(model))
 }
 
 fn last_loop_agrees(accepted: &Accepted) -> Result<(), String> {

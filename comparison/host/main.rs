@@ -26,6 +26,7 @@ mod run;
 mod shrink;
 #[cfg(genfer)]
 mod translate;
+mod watch;
 
 use arguments::{Arguments, Mode};
 use std::ffi::CStr;
@@ -38,6 +39,7 @@ pub extern "C" fn main(count: c_int, words: *const *const c_char) -> c_int {
         .map(|word| word.to_string_lossy().into_owned())
         .collect();
     genfer_side::silence_panics();
+    watch::start();
     match Arguments::read(&words).and_then(|arguments| start(&arguments)) {
         Ok(failed) => c_int::from(failed > 0),
         Err(wrong) => {

@@ -4,6 +4,10 @@ use crate::damage::text_of;
 use crate::model::tree::Statement;
 use crate::model::{reader, text, Limits};
 use std::ops::Range;
+use std::time::{Duration, Instant};
+
+/// How long a smaller program is looked for.
+const LONGEST: Duration = Duration::from_secs(10);
 
 /// One way to make a list smaller: a part replaced, and an item before it lowered with it.
 struct Edit<T> {
@@ -38,7 +42,7 @@ impl<T: Clone> Edit<T> {
     }
 }
 
-/// A small text that fails as the given one does: no single edit below makes it smaller.
+/// A small text that fails as the given one does: in time, no single edit below makes it smaller.
 pub fn smallest(failing: &[u8], fails: &dyn Fn(&[u8]) -> bool) -> Vec<u8> {
     let fails_as_words = |words: &[u64]| fails(&text_of(words));
     match text::words(failing, &Limits::lifted()) {
@@ -49,17 +53,27 @@ pub fn smallest(failing: &[u8], fails: &dyn Fn(&[u8]) -> bool) -> Vec<u8> {
     }
 }
 
-/// Takes the first edit that still fails, again and again.
+/// Goes over all edits again and again, and takes each that leaves a list that still fails.
 fn shrink<T: Clone>(
     mut failing: Vec<T>,
     edits: &dyn Fn(&[T]) -> Vec<Edit<T>>,
     fails: &dyn Fn(&[T]) -> bool,
 ) -> Vec<T> {
+    let end = Instant::now() + LONGEST;
+    let mut skipped = 0;
     loop {
-        let mut copies = edits(&failing).into_iter().map(|edit| edit.apply(&failing));
-        match copies.find(|copy| fails(copy)) {
-            None => return failing,
-            Some(copy) => failing = copy,
+        let all = edits(&failing);
+        let copies = all.iter().enumerate().skip(skipped);
+        let mut copies = copies.map(|(index, edit)| (index, edit.apply(&failing)));
+        let taken = copies.find(|(_, copy)| Instant::now() > end || fails(copy));
+        match taken {
+            _ if Instant::now() > end => return failing,
+            Some((index, copy)) => {
+                failing = copy;
+                skipped = index;
+            }
+            None if skipped == 0 => return failing,
+            None => skipped = 0,
         }
     }
 }
