@@ -1,7 +1,7 @@
 //! One program, all answers.
 
 use crate::answers::Genfer;
-use crate::model::{self, Accepted, Answer, Limits, Outcome, Refusal};
+use crate::model::{self, Accepted, Answer, Limits, Outcome, Refusal, Start};
 use crate::{genfer_side, library, watch};
 
 /// Which limits hold, and how many steps the model may spend on a program.
@@ -56,6 +56,25 @@ impl Judge {
             Ok(()) if alone => Verdict::Alone(answer),
             Ok(()) => Verdict::Agree(answer),
             Err(difference) => Verdict::Differ(self.all_answers(text, &answer, &difference)),
+        }
+    }
+
+    /// Genfer against the model from the caller's ranges; the library takes a text only.
+    pub fn judge_from(&self, words: &[u64], start: &Start) -> Verdict {
+        let answer = model::from_start(words.to_vec(), start, &self.limits, self.steps);
+        if answer.outcome == Outcome::TooLong {
+            return Verdict::TooLong;
+        }
+        let judged = match asks_genfer(&answer) {
+            None => return Verdict::Alone(answer),
+            Some(accepted) => {
+                let said = genfer_side::answer_from(words, start);
+                same("genfer's answer", said, expected(&answer, accepted))
+            }
+        };
+        match judged {
+            Ok(()) => Verdict::Agree(answer),
+            Err(difference) => Verdict::Differ(difference),
         }
     }
 

@@ -2,7 +2,8 @@
 
 use crate::answers::Genfer;
 use crate::genfer_side;
-use crate::model::{self, text, Limits};
+use crate::model::ranges::Range;
+use crate::model::{self, text, Limits, Start};
 use crate::run::STEPS;
 
 pub struct Difference {
@@ -103,11 +104,107 @@ fn continuous() -> Vec<Difference> {
     ]
 }
 
+/// Inputs that no text gives: the caller's own ranges (each a start and an end) and unroll.
+fn of_callers() -> Vec<(&'static str, Start, &'static str, Genfer)> {
+    let zeros = |count| vec![(0, 0); count];
+    vec![
+        (
+            "[1,3,0,0]",
+            caller(&[(5, 3)], 0),
+            "refused 7 at 0",
+            returned("{5, ..., 3}"),
+        ),
+        (
+            "[1,1,1,0,2]",
+            caller(&zeros(1), 0),
+            "refused 5 at 2",
+            returned("{0}, {0, ..., 1}"),
+        ),
+        (
+            "[1,1,1,0,2]",
+            caller(&[], 0),
+            "refused 5 at 2",
+            stopped("assertion failed: v.id() < result.num_vars()"),
+        ),
+        (
+            "[1,3,0,0]",
+            caller(&[], 0),
+            "refused 5 at 2",
+            stopped(NO_SUCH_VARIABLE),
+        ),
+        (
+            "[2,6,3,0,0]",
+            caller(&[], 0),
+            "refused 5 at 3",
+            returned("empty"),
+        ),
+        (
+            "[1,4,2,0,0,0,0]",
+            caller(&[], 0),
+            "refused 5 at 3",
+            returned(""),
+        ),
+        (
+            "[1,1,0,0,3,1]",
+            caller(&zeros(1), 0),
+            "refused 5 at 5",
+            returned("{0, ..., 1}"),
+        ),
+        (
+            "[1,5,0,0,5,0,0]",
+            caller(&[], 10_001),
+            "refused 4 at 0",
+            returned("empty"),
+        ),
+        (
+            "[1,6]",
+            caller(&zeros(65), 0),
+            "refused 4 at 0",
+            returned("empty"),
+        ),
+    ]
+}
+
+fn caller(ranges: &[(u64, u64)], unroll: u64) -> Start {
+    let ranges = ranges
+        .iter()
+        .map(|(start, end)| Some(Range::between(*start, *end)));
+    Start {
+        ranges: ranges.collect(),
+        unroll,
+    }
+}
+
+/// For each input of a caller, what is expected beside what is said.
+pub fn callers_answers() -> Vec<(&'static str, Vec<(String, String)>)> {
+    let limits = Limits::of_document();
+    let mut all = Vec::new();
+    for (text, start, line, genfer) in of_callers() {
+        let words = text::words(text.as_bytes(), &limits).expect("a list of words");
+        let model = model::from_start(words.clone(), &start, &limits, STEPS);
+        let mut answers = vec![(line.to_string(), model.outcome.to_string())];
+        if genfer_side::PRESENT {
+            let said = genfer_side::answer_from(&words, &start);
+            answers.push((format!("{:?}", genfer), format!("{:?}", said)));
+        }
+        all.push((text, answers));
+    }
+    all
+}
+
+fn returned(line: &str) -> Genfer {
+    Genfer::Returned(line.to_string())
+}
+
+fn stopped(message: &str) -> Genfer {
+    Genfer::Stopped(message.to_string())
+}
+
 fn returns(text: &str, line: &'static str, genfer: &str) -> Difference {
     Difference {
         text: text.to_string(),
         line,
-        genfer: Genfer::Returned(genfer.to_string()),
+        genfer: returned(genfer),
     }
 }
 
@@ -115,7 +212,7 @@ fn stops_with(text: &str, line: &'static str, genfer: &str) -> Difference {
     Difference {
         text: text.to_string(),
         line,
-        genfer: Genfer::Stopped(genfer.to_string()),
+        genfer: stopped(genfer),
     }
 }
 

@@ -1,11 +1,14 @@
 //! Running genfer's own analysis, with its panics caught.
 
 use crate::answers::{Genfer, LoopEnd};
+use crate::model::ranges::Range;
+use crate::model::Start;
 use crate::translate;
 use genfer::number::take_trail;
 use genfer::ppl::{Program, Statement, Var};
-use genfer::semantics::support::SupportTransformer;
+use genfer::semantics::support::{SupportTransformer, VarSupport};
 use genfer::semantics::Transformer;
+use genfer::support::SupportSet;
 use std::any::Any;
 use std::cell::Cell;
 use std::panic::{catch_unwind, set_hook, take_hook, AssertUnwindSafe};
@@ -64,9 +67,36 @@ pub fn answer(words: &[u64]) -> Genfer {
 }
 
 fn run(program: &Program) -> Genfer {
-    match caught(|| transformer().semantics(program).to_string()) {
+    said(|| transformer().semantics(program).to_string())
+}
+
+fn said(work: impl FnOnce() -> String) -> Genfer {
+    match caught(work) {
         Ok(line) => Genfer::Returned(line),
         Err(message) => Genfer::Stopped(message),
+    }
+}
+
+/// From the caller's ranges and with the caller's unroll, as genfer's own functions take them.
+pub fn answer_from(words: &[u64], start: &Start) -> Genfer {
+    let program = translate::program(words);
+    let ranges: Vec<SupportSet> = start.ranges.iter().map(support_set).collect();
+    let state = VarSupport::from(ranges);
+    let mut transformer = SupportTransformer::default().with_unroll(start.unroll as usize);
+    said(|| {
+        transformer
+            .transform_statements(&program.stmts, state)
+            .to_string()
+    })
+}
+
+fn support_set(range: &Option<Range>) -> SupportSet {
+    match range {
+        None => SupportSet::Empty,
+        Some(range) => SupportSet::Range {
+            start: range.start as u32,
+            end: range.end.map(|end| end as u32),
+        },
     }
 }
 

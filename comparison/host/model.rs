@@ -7,7 +7,7 @@ pub mod rules;
 pub mod text;
 pub mod tree;
 
-use ranges::State;
+use ranges::{Range, State};
 use rules::{Analysis, LoopAnswer, Stop};
 use std::collections::BTreeSet;
 use std::fmt::{Display, Formatter};
@@ -123,6 +123,37 @@ impl Answer {
     }
 }
 
+/// What the caller of the analysis gives beside the words; `None` is an Empty range.
+#[derive(Debug)]
+pub struct Start {
+    pub ranges: Vec<Option<Range>>,
+    pub unroll: u64,
+}
+
+impl Start {
+    /// What the program takes: zeros and no unrolling.
+    pub fn zero(variables: usize) -> Start {
+        Start {
+            ranges: vec![Some(Range::point(0)); variables],
+            unroll: 0,
+        }
+    }
+
+    /// Refusals in their order: the list's length, n, the default unroll, a start over its end.
+    fn state(&self, words: &[u64], limits: &Limits) -> Result<State, Refusal> {
+        let too_many = words.len() > limits.words || self.ranges.len() as u64 > limits.variables;
+        if too_many || self.unroll > limits.unroll {
+            return Err(Refusal::new(4, 0));
+        }
+        let crossed = |range: &Option<Range>| range.map_or(false, Range::is_crossed);
+        if let Some(variable) = self.ranges.iter().position(crossed) {
+            return Err(Refusal::new(7, variable));
+        }
+        let ranges: Option<Vec<Range>> = self.ranges.iter().copied().collect();
+        Ok(ranges.map_or(State::Empty, State::Live))
+    }
+}
+
 /// The model's answer to a text, if that takes no more than so many steps.
 pub fn of_text(text: &[u8], limits: &Limits, steps: u64) -> Answer {
     match text::words(text, limits) {
@@ -131,15 +162,27 @@ pub fn of_text(text: &[u8], limits: &Limits, steps: u64) -> Answer {
     }
 }
 
-pub fn of_words(words: Vec<u64>, limits: &Limits, steps: u64) -> Answer {
-    let checked = reader::program(&words, limits.variables, limits)
-        .and_then(|first| reader::program(&words, first.used as u64, limits));
-    let program = match checked {
+/// The words are checked with the most variables first, then with as many as they use.
+fn of_words(words: Vec<u64>, limits: &Limits, steps: u64) -> Answer {
+    match reader::program(&words, limits.variables, limits) {
+        Err(refusal) => Answer::refused(refusal),
+        Ok(program) => from_start(words, &Start::zero(program.used), limits, steps),
+    }
+}
+
+/// The analysis of words from the caller's ranges.
+pub fn from_start(words: Vec<u64>, start: &Start, limits: &Limits, steps: u64) -> Answer {
+    let variables = start.ranges.len() as u64;
+    let checked = start.state(&words, limits);
+    let checked = checked.and_then(|state| {
+        reader::program(&words, variables, limits).map(|program| (state, program))
+    });
+    let (state, program) = match checked {
         Err(refusal) => return Answer::refused(refusal),
-        Ok(program) => program,
+        Ok(checked) => checked,
     };
-    let mut analysis = Analysis::new(limits, 0, steps);
-    let outcome = match analysis.list(&program.statements, State::zero(program.used)) {
+    let mut analysis = Analysis::new(limits, start.unroll, steps);
+    let outcome = match analysis.list(&program.statements, state) {
         Ok(state) => Outcome::State(state),
         Err(Stop::Refused(refusal)) => Outcome::Refused(refusal),
         Err(Stop::TooLong) => Outcome::TooLong,

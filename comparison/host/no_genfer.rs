@@ -1,6 +1,7 @@
 //! Stands for `genfer_side` where genfer's sources are not there: never asked, since `PRESENT` is false.
 
 use crate::answers::{Genfer, LoopEnd};
+use crate::model::Start;
 
 pub const PRESENT: bool = false;
 
@@ -21,6 +22,10 @@ pub fn ready(_: &[u64]) -> Ready {
 }
 
 pub fn answer(_: &[u64]) -> Genfer {
+    unreachable!("{}", ABSENT)
+}
+
+pub fn answer_from(_: &[u64], _: &Start) -> Genfer {
     unreachable!("{}", ABSENT)
 }
 

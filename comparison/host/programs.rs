@@ -1,6 +1,7 @@
 //! Random programs, as words. Most are within document 01's limits; some are just beyond one.
 
-use crate::model::ranges::TOP;
+use crate::model::ranges::{Range, TOP};
+use crate::model::Start;
 use crate::random::Random;
 
 /// How far a program may go.
@@ -92,6 +93,35 @@ pub fn long_program(random: &mut Random, words: usize) -> Vec<u64> {
         long.extend_from_slice(&program[1..]);
     }
     long
+}
+
+/// Ranges to start from, and an unroll for loops that have none.
+pub fn start(random: &mut Random, variables: usize) -> Start {
+    let mut ranges = Vec::new();
+    for _ in 0..variables {
+        let (low, high) = (value(random), value(random));
+        ranges.push(match random.weighted(&[1, 20, 20, 20]) {
+            0 if random.one_in(4) => None,
+            0 | 1 => Some(Range::point(low)),
+            2 => Some(Range::between(low.min(high), low.max(high))),
+            _ => Some(Range::from(low)),
+        });
+    }
+    Start {
+        ranges,
+        unroll: random.pick(&[0, 1, 2, 5, 99, 100, 101, 150]),
+    }
+}
+
+/// Mostly a small number, often one near 2^32 - 1 or a power of two.
+fn value(random: &mut Random) -> u64 {
+    match random.weighted(&[45, 25, 8, 14, 8]) {
+        0 => random.below(4),
+        1 => random.below(13),
+        2 => random.below(300),
+        3 => TOP - random.below(4),
+        _ => (1 << random.below(32)) - random.below(2),
+    }
 }
 
 fn some_variables(random: &mut Random, reach: Reach) -> u64 {
@@ -188,16 +218,7 @@ impl Writer<'_> {
     }
 
     fn value(&mut self) -> u64 {
-        match self.random.weighted(&[45, 25, 8, 14, 8]) {
-            0 => self.random.below(4),
-            1 => self.random.below(13),
-            2 => self.random.below(300),
-            3 => TOP - self.random.below(4),
-            _ => {
-                let power = 1 << self.random.below(32);
-                power - self.random.below(2)
-            }
-        }
+        value(self.random)
     }
 
     fn small(&mut self) -> u64 {

@@ -18,12 +18,13 @@ use std::collections::BTreeSet;
 const LONGEST_TEXT: usize = 1_999;
 
 /// Steps of a usual program and of one in `FEW`, so that the list is replayed quickly.
-const STEPS: u64 = 1_500;
+const STEPS: u64 = 4_000;
 const MORE_STEPS: u64 = 30_000;
-const FEW: u64 = 50;
+const FEW: u64 = 100;
 
-/// Of the short programs, one in so many is recorded.
-const SHORT_PROGRAMS: usize = 41;
+/// Of the short word lists one in so many is recorded: of the programs, and of the others.
+const SHORT_PROGRAMS: u64 = 7;
+const SHORT_OTHERS: u64 = 5_000;
 
 struct Record {
     lines: String,
@@ -71,11 +72,16 @@ impl Record {
     }
 
     fn short_programs(&mut self) {
-        let mut index = 0;
-        all_programs(&FEW_WORDS, 6, &mut |words| {
-            index += 1;
-            if index % SHORT_PROGRAMS == 0 {
-                self.add(&text_of(words), STEPS);
+        let (mut programs, mut others) = (0, 0);
+        all_programs(&FEW_WORDS, 7, &mut |words| {
+            let text = text_of(words);
+            let (index, every) = match judge(&text, STEPS) {
+                Verdict::Agree(_) => (&mut programs, SHORT_PROGRAMS),
+                _ => (&mut others, SHORT_OTHERS),
+            };
+            *index += 1;
+            if *index % every == 0 {
+                self.add(&text, STEPS);
             }
         });
     }
@@ -92,7 +98,7 @@ impl Record {
                 STEPS
             };
             let words = program(&mut random, Reach::OF_DOCUMENT);
-            let text = match random.weighted(&[65, 25, 5, 5]) {
+            let text = match random.weighted(&[80, 12, 5, 3]) {
                 0 => text_of(&words),
                 1 => text_of(&damage::words(&mut random, &words)),
                 2 => damage::spaced_text(&mut random, &words),

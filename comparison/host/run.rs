@@ -9,7 +9,7 @@ use crate::damage::{self, text_of};
 use crate::differences;
 use crate::exhaustive::{all_lists, all_programs, FEW_WORDS, MANY_WORDS};
 use crate::model;
-use crate::programs::{long_program, program, Reach};
+use crate::programs::{long_program, program, start, Reach};
 use crate::random::Random;
 use crate::shrink;
 use crate::{genfer_side, library};
@@ -42,6 +42,7 @@ pub fn compare(arguments: &Arguments) -> u64 {
         println!("of the programs compared:\n{}", run.coverage);
     }
     if genfer_side::PRESENT {
+        run.from_starts(arguments);
         run.without_limits(arguments);
     }
     println!(
@@ -90,6 +91,11 @@ impl Run {
             self.check(difference.text.as_bytes());
             for (expected, said) in difference.answers() {
                 self.expect(&difference.text, &expected, &said);
+            }
+        }
+        for (text, answers) in differences::callers_answers() {
+            for (expected, said) in answers {
+                self.expect(text, &expected, &said);
             }
         }
         println!("cases by hand: {}", self.passed);
@@ -156,6 +162,26 @@ impl Run {
         self.alone += run.alone;
         self.too_long += run.too_long;
         println!("with limits lifted: {}", self.passed);
+    }
+
+    /// Genfer against the model from ranges and unrolls that a caller gives.
+    fn from_starts(&mut self, arguments: &Arguments) {
+        let mut random = Random::new(arguments.seed);
+        for _ in 0..arguments.count / 2 {
+            let words = program(&mut random, Reach::OF_DOCUMENT);
+            let variables = words.iter().filter(|word| **word < 64).max();
+            let start = start(&mut random, variables.map_or(0, |most| *most as usize + 1));
+            match self.judge.judge_from(&words, &start) {
+                Verdict::Agree(_) => self.passed += 1,
+                Verdict::Alone(_) => self.alone += 1,
+                Verdict::TooLong => self.too_long += 1,
+                Verdict::Differ(report) => {
+                    self.failed += 1;
+                    println!("failed: {:?} from {:?}\n{}", words, start, report);
+                }
+            }
+        }
+        println!("with callers' starting states: {}", self.passed);
     }
 
     fn expect(&mut self, text: &str, expected: &str, said: &str) {

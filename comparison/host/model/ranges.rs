@@ -31,6 +31,11 @@ impl Range {
         Range { start, end: None }
     }
 
+    /// Whether the start is over the end, as only a caller's range may be.
+    pub fn is_crossed(self) -> bool {
+        self.end.map_or(false, |end| self.start > end)
+    }
+
     pub fn join(self, other: Range) -> Range {
         Range {
             start: self.start.min(other.start),
@@ -130,10 +135,6 @@ pub enum State {
 }
 
 impl State {
-    pub fn zero(variables: usize) -> State {
-        State::Live(vec![Range::point(0); variables])
-    }
-
     pub fn is_live(&self) -> bool {
         matches!(self, State::Live(_))
     }

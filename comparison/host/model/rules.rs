@@ -100,39 +100,13 @@ impl Analysis<'_> {
                 then,
                 otherwise,
             } => {
-                let (yes, no) = self.event(event, state)?;
+                let (yes, no) = sides(event, state)?;
                 let yes = self.enter(then, yes)?;
                 Ok(yes.join(&self.enter(otherwise, no)?))
             }
             Kind::While(looped) => self.looped(looped, statement.place, state),
             Kind::Fail => Ok(State::Empty),
             Kind::Normalize { given, body } => self.normalize(given, body, state),
-        }
-    }
-
-    /// The true side and the false side.
-    fn event(&mut self, event: &Event, state: State) -> Sides {
-        match &event.test {
-            Test::InSet { variable, values } => {
-                let range = match state.get(*variable) {
-                    None => return Ok((State::Empty, State::Empty)),
-                    Some(range) => range,
-                };
-                let removed = range.remove(values);
-                let removed = removed.map_err(|Over| refused(8, event.place))?;
-                let yes = state.clone().set(*variable, range.retain(values));
-                Ok((yes, state.set(*variable, removed)))
-            }
-            Test::Compare | Test::Data(_) => Ok((state.clone(), state)),
-            Test::Not(event) => self.event(event, state).map(|(yes, no)| (no, yes)),
-            Test::All(events) => {
-                events
-                    .iter()
-                    .try_fold((state, State::Empty), |(yes, no), event| {
-                        let (yes, new_no) = self.event(event, yes)?;
-                        Ok((yes, no.join(&new_no)))
-                    })
-            }
         }
     }
 
@@ -158,7 +132,7 @@ impl Analysis<'_> {
     /// The new state and the exit.
     fn pass(&mut self, looped: &While, place: usize, state: State) -> Sides {
         self.step()?;
-        let (yes, exit) = self.event(&looped.event, state)?;
+        let (yes, exit) = sides(&looped.event, state)?;
         let new = self.enter(&looped.body, yes)?;
         self.come_to(place, &new);
         Ok((new, exit))
@@ -177,7 +151,7 @@ impl Analysis<'_> {
             state = new;
         }
         let settled = self.settle(looped, place, state, &mut passes)?;
-        let (_, exit) = self.event(&looped.event, settled.clone())?;
+        let (_, exit) = sides(&looped.event, settled.clone())?;
         self.loops.push(LoopAnswer { passes, settled });
         Ok(exits.join(&exit))
     }
@@ -228,6 +202,31 @@ impl Analysis<'_> {
 
 fn refused(number: u8, place: usize) -> Stop {
     Stop::Refused(Refusal::new(number, place))
+}
+
+/// The true side and the false side.
+fn sides(event: &Event, state: State) -> Sides {
+    match &event.test {
+        Test::InSet { variable, values } => {
+            let range = match state.get(*variable) {
+                None => return Ok((State::Empty, State::Empty)),
+                Some(range) => range,
+            };
+            let removed = range.remove(values);
+            let removed = removed.map_err(|Over| refused(8, event.place))?;
+            let yes = state.clone().set(*variable, range.retain(values));
+            Ok((yes, state.set(*variable, removed)))
+        }
+        Test::Compare | Test::Data(_) => Ok((state.clone(), state)),
+        Test::Not(event) => sides(event, state).map(|(yes, no)| (no, yes)),
+        Test::All(events) => {
+            let start = (state, State::Empty);
+            events.iter().try_fold(start, |(yes, no), event| {
+                let (yes, new_no) = sides(event, yes)?;
+                Ok((yes, no.join(&new_no)))
+            })
+        }
+    }
 }
 
 fn drawn(state: State, variable: usize, add: bool, draw: Option<Range>) -> State {
