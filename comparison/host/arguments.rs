@@ -3,7 +3,7 @@
 pub const USAGE: &str = "\
 --count N         random programs (5000)
 --seed N          seed of the random programs (1)
---length N        all short programs of up to so many words (7)
+--length N        all short programs of up to so many words (6)
 --record FILE     write a recorded list of --count programs and their lines
 --benchmark       time genfer and Woolquern
 --explain TEXT    all that is said of one program";
@@ -30,7 +30,7 @@ impl Arguments {
             mode: Mode::Compare,
             count: 5_000,
             seed: 1,
-            length: 7,
+            length: 6,
         };
         let mut words = words.iter();
         while let Some(word) = words.next() {

@@ -121,10 +121,10 @@ fn fewer_statements(
     }
 }
 
-/// Neighbours dropped, from half of all down to one.
+/// Neighbours dropped, from all of them down to one.
 fn drops<T: Clone>(items: &[T]) -> Vec<Edit<T>> {
     let mut edits = Vec::new();
-    let mut length = items.len() / 2;
+    let mut length = items.len();
     while length > 0 {
         for place in 0..=items.len() - length {
             edits.push(Edit::new(place..place + length, &[]));
