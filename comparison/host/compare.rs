@@ -114,8 +114,22 @@ fn genfer_agrees(answer: &Answer) -> Result<(), String> {
     };
     let said = genfer_side::answer(&accepted.words);
     same("genfer's answer", said, expected(answer, accepted))?;
-    trail_agrees(&genfer_side::trail(&accepted.words), &accepted.trail)?;
+    let trail = genfer_side::trail(&accepted.words);
+    trail_agrees(&trail, &accepted.trail)?;
+    place_agrees(&answer.outcome, accepted, &trail)?;
     last_loop_agrees(accepted)
+}
+
+/// Genfer overflows in the statement that it came to last.
+fn place_agrees(outcome: &Outcome, accepted: &Accepted, trail: &[u64]) -> Result<(), String> {
+    match outcome {
+        Outcome::Refused(Refusal { number: 8, place }) => {
+            let last = trail.last().map(|place| *place as usize);
+            let expected = accepted.program.statement_at(*place);
+            same("genfer's last statement", last, expected)
+        }
+        _ => Ok(()),
+    }
 }
 
 /// What genfer is to say, by the model.
@@ -141,8 +155,7 @@ fn panic_message(refusal: &Refusal, words: &[u64]) -> String {
     }
 }
 
-/// Both came by the same places in the same order. At a panic the last of them is the statement of
-/// the refusal's place, wherever its state is not empty.
+/// Both came by the same places in the same order.
 fn trail_agrees(genfer: &[u64], model: &[u64]) -> Result<(), String> {
     let common = genfer.iter().zip(model).take_while(|(a, b)| a == b).count();
     let next = |trail: &[u64]| trail.get(common).copied();

@@ -48,6 +48,11 @@ fn stops() -> Vec<Difference> {
         stops_with("[1,7,1,0,0]", "refused 5 at 3", NO_SUCH_VARIABLE),
         stops_with("[2,6,7,1,0,0]", "refused 5 at 4", UNBOUNDED),
         stops_with(
+            "[3,1,0,0,5,4096,1,1,0,9,7,2,0,1,0]",
+            "refused 10 at 12",
+            "Cannot normalize with respect to variable `b`, because its value could not be proven to be bounded.",
+        ),
+        stops_with(
             "[3,1,0,0,5,65536,2,0,0,1,65536,0,0,1,0,0,13]",
             "refused 6 at 16",
             MULTIPLIES,

@@ -5,6 +5,9 @@ use crate::model::{reader, Limits, Refusal};
 /// Small enough to go far, with every kind of statement and event and the top value.
 pub const FEW_WORDS: [u64; 9] = [0, 1, 2, 3, 4, 5, 6, 7, 4_294_967_295];
 
+/// Fewer still, to go further: draws, assignments, branches and loops.
+pub const FEWEST_WORDS: [u64; 5] = [0, 1, 2, 4, 5];
+
 /// Every kind of draw too, and what lies beside a kind or a limit.
 pub const MANY_WORDS: [u64; 24] = [
     0,

@@ -7,7 +7,7 @@ use crate::compare::{Judge, Verdict};
 use crate::coverage::Coverage;
 use crate::damage::{self, text_of};
 use crate::differences;
-use crate::exhaustive::{all_lists, all_programs, FEW_WORDS, MANY_WORDS};
+use crate::exhaustive::{all_lists, all_programs, FEWEST_WORDS, FEW_WORDS, MANY_WORDS};
 use crate::model;
 use crate::programs::{long_program, program, start, Reach};
 use crate::random::Random;
@@ -106,6 +106,9 @@ impl Run {
             self.check_words(words)
         });
         all_programs(&FEW_WORDS, length, &mut |words| self.check_words(words));
+        all_programs(&FEWEST_WORDS, length + 3, &mut |words| {
+            self.check_words(words)
+        });
         println!("with all short lists: {}", self.passed);
     }
 

@@ -108,12 +108,25 @@ impl Statement {
 }
 
 impl Program {
+    /// The place of the innermost statement that holds a word.
+    pub fn statement_at(&self, place: usize) -> Option<usize> {
+        statement_at(&self.statements, place)
+    }
+
     /// The places of all then-lists, else-lists and loop bodies, rising.
     pub fn entered_lists(&self) -> Vec<usize> {
         let mut places = Vec::new();
         add_entered_lists(&self.statements, &mut places);
         places
     }
+}
+
+fn statement_at(statements: &[Statement], place: usize) -> Option<usize> {
+    let holds = |statement: &&Statement| (statement.place..statement.end).contains(&place);
+    let outer = statements.iter().find(holds)?;
+    let mut lists = outer.lists().into_iter();
+    let inner = lists.find_map(|list| statement_at(&list.statements, place));
+    Some(inner.unwrap_or(outer.place))
 }
 
 fn add_entered_lists(statements: &[Statement], places: &mut Vec<usize>) {
