@@ -246,6 +246,7 @@ impl Writer<'_> {
             16 * nested,
             12 * looped,
             6 * nested,
+            2 * plain * nested,
         ];
         match self.random.weighted(&weights) {
             0 => self.draw_statement(),
@@ -254,9 +255,22 @@ impl Writer<'_> {
             3 => self.push(&[6]),
             4 => self.branch(nesting),
             5 => return self.looped(nesting),
-            _ => return self.normalize(nesting),
+            6 => return self.normalize(nesting),
+            _ => return self.top_test(nesting),
         }
         1
+    }
+
+    /// A variable near 2^32 - 1 and a test of the values there, which may remove them all.
+    fn top_test(&mut self, nesting: Nesting) -> u64 {
+        let (variable, values) = (self.variable(), self.top_values());
+        let start = TOP - self.random.below(4);
+        self.push(&[1, variable, 0, 1, start, 1]);
+        self.push(&[4, 1, variable, values.len() as u64]);
+        self.push(&values);
+        self.block(|writer| writer.statements(1, nesting.deeper()));
+        self.block(|writer| writer.statements(1, nesting.deeper()));
+        2
     }
 
     fn draw_statement(&mut self) {

@@ -131,11 +131,10 @@ impl Record {
         self.add_line(" ".repeat(65_537).as_bytes(), STEPS);
     }
 
-    /// Whether the program was taken into the list.
+    /// Whether the program was taken into the list. Its text stands on one line whatever reads it.
     fn add(&mut self, text: &[u8], steps: u64) -> bool {
-        let plain = |byte: &u8| (b' '..=b'~').contains(byte) || *byte == b'\t' || *byte == b'\r';
-        let carries = text.iter().all(plain) && text.last() != Some(&b'\r');
-        carries && text.len() <= LONGEST_TEXT && self.add_line(text, steps)
+        let plain = |byte: &u8| (b' '..=b'~').contains(byte) || *byte == b'\t';
+        text.iter().all(plain) && text.len() <= LONGEST_TEXT && self.add_line(text, steps)
     }
 
     fn add_line(&mut self, text: &[u8], steps: u64) -> bool {
