@@ -133,7 +133,7 @@ fn some_variables(random: &mut Random, reach: Reach) -> u64 {
     }
 }
 
-/// Writes one program. Functions that write statements answer how many.
+/// Writes one program. A function that may write several statements answers how many it wrote.
 struct Writer<'a> {
     random: &'a mut Random,
     reach: Reach,
@@ -383,20 +383,20 @@ impl Writer<'_> {
     fn set(&mut self) -> Vec<u64> {
         match self.random.weighted(&[30, 25, 25, 4, 10, 5, 1]) {
             0 => vec![self.value()],
-            1 => self.run(0, 12),
+            1 => self.run(12),
             2 => (0..self.random.between(2, 6))
                 .map(|_| self.value())
                 .collect(),
             3 => Vec::new(),
             4 => self.top_values(),
-            5 => self.run(0, 130),
+            5 => self.run(130),
             _ => (0..self.reach.values).collect(),
         }
     }
 
     /// Consecutive values, sometimes turned round and with repeats.
-    fn run(&mut self, low: u64, most: u64) -> Vec<u64> {
-        let from = low + self.small();
+    fn run(&mut self, most: u64) -> Vec<u64> {
+        let from = self.small();
         let mut values: Vec<u64> = (from..from + self.random.between(1, most)).collect();
         if self.random.one_in(3) {
             values.reverse();
@@ -489,7 +489,7 @@ impl Writer<'_> {
         self.push(&[5]);
         self.unroll(nesting);
         let most = if self.random.one_in(4) { 130 } else { 12 };
-        let values = self.run(0, most);
+        let values = self.run(most);
         self.push(&[1, focus, values.len() as u64]);
         self.push(&values);
         let step = self.small();
@@ -558,7 +558,7 @@ impl Writer<'_> {
     /// Loops in loops, each with few passes.
     fn nest(&mut self, nesting: Nesting) -> u64 {
         let counter = self.random.below(self.variables);
-        let values = self.run(0, 2);
+        let values = self.run(2);
         let reset = self.random.below(2);
         self.push(&[2, counter, 0, 0, 0, 0, reset]);
         self.push(&[5, 0, 0, 1, counter, values.len() as u64]);

@@ -9,7 +9,7 @@ use crate::damage::{self, text_of};
 use crate::differences;
 use crate::exhaustive::{all_programs, FEW_WORDS};
 use crate::genfer_side;
-use crate::model::{Answer, Outcome};
+use crate::model::{reader, Answer, Limits, Outcome};
 use crate::programs::{program, program_of, Reach};
 use crate::random::Random;
 use std::collections::BTreeSet;
@@ -75,9 +75,10 @@ impl Record {
         let (mut programs, mut others) = (0, 0);
         all_programs(&FEW_WORDS, 7, &mut |words| {
             let text = text_of(words);
-            let (index, every) = match judge(&text, STEPS) {
-                Verdict::Agree(_) => (&mut programs, SHORT_PROGRAMS),
-                _ => (&mut others, SHORT_OTHERS),
+            let (index, every) = if is_program(words) {
+                (&mut programs, SHORT_PROGRAMS)
+            } else {
+                (&mut others, SHORT_OTHERS)
             };
             *index += 1;
             if *index % every == 0 {
@@ -113,14 +114,10 @@ impl Record {
         loop {
             let words = program_of(random, Reach::OF_DOCUMENT, variables);
             let text = text_of(&words);
-            if let Verdict::Agree(Answer {
-                accepted: Some(accepted),
-                ..
-            }) = judge(&text, STEPS)
-            {
-                if accepted.program.used as u64 == variables && self.add(&text, STEPS) {
-                    return;
-                }
+            let limits = Limits::of_document();
+            let used = reader::program(&words, variables, &limits).map(|program| program.used);
+            if used == Ok(variables as usize) && self.add(&text, STEPS) {
+                return;
             }
         }
     }
@@ -151,6 +148,11 @@ impl Record {
             Verdict::Differ(report) => panic!("{}", report),
         }
     }
+}
+
+fn is_program(words: &[u64]) -> bool {
+    let limits = Limits::of_document();
+    reader::program(words, limits.variables, &limits).is_ok()
 }
 
 fn judge(text: &[u8], steps: u64) -> Verdict {
