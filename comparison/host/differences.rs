@@ -8,6 +8,8 @@ use crate::run::STEPS;
 
 pub struct Difference {
     pub text: String,
+    /// What the caller of the library gives, where no text can.
+    start: Option<Start>,
     /// Woolquern's.
     line: &'static str,
     genfer: Genfer,
@@ -18,7 +20,8 @@ const ADDS: &str = "attempt to add with overflow";
 const UNBOUNDED: &str = "Cannot normalize with respect to variable `a`, because its value could not be proven to be bounded.";
 const NO_SUCH_VARIABLE: &str = "index out of bounds: the len is 0 but the index is 0";
 
-pub fn all() -> Vec<Difference> {
+/// Inputs that are texts.
+pub fn of_texts() -> Vec<Difference> {
     let mut all = stops();
     all.extend(limits());
     all.extend(continuous());
@@ -65,7 +68,6 @@ fn limits() -> Vec<Difference> {
     let zeros = |count: usize| vec!["0"; count].join(",");
     let many_variables = vec!["{0}"; 65].join(", ");
     let many_values = format!("[1,4,1,0,257,{},0,0]", zeros(257));
-    let many_statements = format!("[8192,{}]", vec!["6"; 8_192].join(","));
     vec![
         returns("[1,3,64,0]", "refused 5 at 2", &many_variables),
         returns(
@@ -81,7 +83,7 @@ fn limits() -> Vec<Difference> {
         returns(&many_values, "refused 4 at 4", "{0}"),
         returns("[1,7,9,0,0,0,0,0,0,0,0,0,1,3,0,0]", "refused 4 at 2", "{0}"),
         returns("[1,5,1,10001,5,0,0]", "refused 4 at 3", "empty"),
-        returns(&many_statements, "refused 2 at 0", "empty"),
+        returns(&many_statements(), "refused 2 at 0", "empty"),
         returns(
             "[2,1,0,0,5,4096,7,1,0,0]",
             "refused 10 at 8",
@@ -109,92 +111,29 @@ fn continuous() -> Vec<Difference> {
     ]
 }
 
-/// Inputs that no text gives: the caller's own ranges (each a start and an end) and unroll.
-fn of_callers() -> Vec<(&'static str, Start, &'static str, Genfer)> {
+/// Inputs that no text gives: a caller's own ranges (each a start and an end) and unroll.
+pub fn of_callers() -> Vec<Difference> {
     let zeros = |count| vec![(0, 0); count];
+    let one = &zeros(1);
+    let many_statements = &many_statements();
+    let unassigned = "assertion failed: v.id() < result.num_vars()";
     vec![
-        (
-            "[1,3,0,0]",
-            caller(&[(5, 3)], 0),
-            "refused 7 at 0",
-            returned("{5, ..., 3}"),
-        ),
-        (
-            "[1,1,1,0,2]",
-            caller(&zeros(1), 0),
-            "refused 5 at 2",
-            returned("{0}, {0, ..., 1}"),
-        ),
-        (
-            "[1,1,1,0,2]",
-            caller(&[], 0),
-            "refused 5 at 2",
-            stopped("assertion failed: v.id() < result.num_vars()"),
-        ),
-        (
-            "[1,3,0,0]",
-            caller(&[], 0),
-            "refused 5 at 2",
-            stopped(NO_SUCH_VARIABLE),
-        ),
-        (
-            "[2,6,3,0,0]",
-            caller(&[], 0),
-            "refused 5 at 3",
-            returned("empty"),
-        ),
-        (
-            "[1,4,2,0,0,0,0]",
-            caller(&[], 0),
-            "refused 5 at 3",
-            returned(""),
-        ),
-        (
-            "[1,1,0,0,3,1]",
-            caller(&zeros(1), 0),
-            "refused 5 at 5",
-            returned("{0, ..., 1}"),
-        ),
-        (
-            "[1,5,0,0,5,0,0]",
-            caller(&[], 10_001),
-            "refused 4 at 0",
-            returned("empty"),
-        ),
-        (
-            "[1,6]",
-            caller(&zeros(65), 0),
-            "refused 4 at 0",
-            returned("empty"),
-        ),
+        returns("[1,3,0,0]", "refused 7 at 0", "{5, ..., 3}").from(&[(5, 3)], 0),
+        returns("[1,1,1,0,2]", "refused 5 at 2", "{0}, {0, ..., 1}").from(one, 0),
+        stops_with("[1,1,1,0,2]", "refused 5 at 2", unassigned).from(&[], 0),
+        stops_with("[1,3,0,0]", "refused 5 at 2", NO_SUCH_VARIABLE).from(&[], 0),
+        returns("[2,6,3,0,0]", "refused 5 at 3", "empty").from(&[], 0),
+        returns("[1,4,2,0,0,0,0]", "refused 5 at 3", "").from(&[], 0),
+        returns("[1,1,0,0,3,1]", "refused 5 at 5", "{0, ..., 1}").from(one, 0),
+        returns("[1,5,0,0,5,0,0]", "refused 4 at 0", "empty").from(&[], 10_001),
+        returns("[1,6]", "refused 4 at 0", "empty").from(&zeros(65), 0),
+        returns(many_statements, "refused 4 at 0", "empty").from(&[], 0),
     ]
 }
 
-fn caller(ranges: &[(u64, u64)], unroll: u64) -> Start {
-    let ranges = ranges
-        .iter()
-        .map(|(start, end)| Some(Range::between(*start, *end)));
-    Start {
-        ranges: ranges.collect(),
-        unroll,
-    }
-}
-
-/// For each input of a caller, what is expected beside what is said.
-pub fn callers_answers() -> Vec<(&'static str, Vec<(String, String)>)> {
-    let limits = Limits::of_document();
-    let mut all = Vec::new();
-    for (text, start, line, genfer) in of_callers() {
-        let words = text::words(text.as_bytes(), &limits).expect("a list of words");
-        let model = model::from_start(words.clone(), &start, &limits, STEPS);
-        let mut answers = vec![(line.to_string(), model.outcome.to_string())];
-        if genfer_side::PRESENT {
-            let said = genfer_side::answer_from(&words, &start);
-            answers.push((format!("{:?}", genfer), format!("{:?}", said)));
-        }
-        all.push((text, answers));
-    }
-    all
+/// 8,193 words.
+fn many_statements() -> String {
+    format!("[8192,{}]", vec!["6"; 8_192].join(","))
 }
 
 fn returned(line: &str) -> Genfer {
@@ -208,6 +147,7 @@ fn stopped(message: &str) -> Genfer {
 fn returns(text: &str, line: &'static str, genfer: &str) -> Difference {
     Difference {
         text: text.to_string(),
+        start: None,
         line,
         genfer: returned(genfer),
     }
@@ -216,19 +156,37 @@ fn returns(text: &str, line: &'static str, genfer: &str) -> Difference {
 fn stops_with(text: &str, line: &'static str, genfer: &str) -> Difference {
     Difference {
         text: text.to_string(),
+        start: None,
         line,
         genfer: stopped(genfer),
     }
 }
 
 impl Difference {
+    fn from(self, ranges: &[(u64, u64)], unroll: u64) -> Difference {
+        let range = |(start, end): &(u64, u64)| Some(Range::between(*start, *end));
+        let ranges = ranges.iter().map(range).collect();
+        Difference {
+            start: Some(Start { ranges, unroll }),
+            ..self
+        }
+    }
+
     /// What is expected beside what is said, by the model and by genfer.
     pub fn answers(&self) -> Vec<(String, String)> {
         let text = self.text.as_bytes();
-        let model = model::of_text(text, &Limits::of_document(), STEPS);
+        let words = text::words(text, &Limits::lifted()).expect("a list of words");
+        let limits = Limits::of_document();
+        let model = match &self.start {
+            None => model::of_text(text, &limits, STEPS),
+            Some(start) => model::from_start(words.clone(), start, &limits, STEPS),
+        };
         let mut answers = vec![(self.line.to_string(), model.outcome.to_string())];
-        if let (true, Ok(words)) = (genfer_side::PRESENT, text::words(text, &Limits::lifted())) {
-            let said = genfer_side::answer(&words);
+        if genfer_side::PRESENT {
+            let said = match &self.start {
+                None => genfer_side::answer(&words),
+                Some(start) => genfer_side::answer_from(&words, start),
+            };
             answers.push((format!("{:?}", self.genfer), format!("{:?}", said)));
         }
         answers

@@ -66,7 +66,7 @@ impl Record {
         for (text, _) in CASES {
             self.add(text.as_bytes(), MORE_STEPS);
         }
-        for difference in differences::all() {
+        for difference in differences::of_texts() {
             self.add(difference.text.as_bytes(), MORE_STEPS);
         }
     }

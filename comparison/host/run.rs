@@ -6,7 +6,7 @@ use crate::cases::{CASES, PASSES};
 use crate::compare::{Judge, Verdict};
 use crate::coverage::Coverage;
 use crate::damage::{self, text_of};
-use crate::differences;
+use crate::differences::{self, Difference};
 use crate::exhaustive::{all_lists, all_programs, FEWEST_WORDS, FEW_WORDS, MANY_WORDS};
 use crate::model;
 use crate::programs::{long_program, program, start, Reach};
@@ -87,16 +87,12 @@ impl Run {
                 .and_then(|program| Some(program.loops.last()?.passes));
             self.expect(text, &format!("{:?}", Some(passes)), &format!("{:?}", said));
         }
-        for difference in differences::all() {
+        for difference in differences::of_texts() {
             self.check(difference.text.as_bytes());
-            for (expected, said) in difference.answers() {
-                self.expect(&difference.text, &expected, &said);
-            }
+            self.expect_answers(&difference);
         }
-        for (text, answers) in differences::callers_answers() {
-            for (expected, said) in answers {
-                self.expect(text, &expected, &said);
-            }
+        for difference in differences::of_callers() {
+            self.expect_answers(&difference);
         }
         println!("cases by hand: {}", self.passed);
     }
@@ -185,6 +181,12 @@ impl Run {
             }
         }
         println!("with callers' starting states: {}", self.passed);
+    }
+
+    fn expect_answers(&mut self, difference: &Difference) {
+        for (expected, said) in difference.answers() {
+            self.expect(&difference.text, &expected, &said);
+        }
     }
 
     fn expect(&mut self, text: &str, expected: &str, said: &str) {
