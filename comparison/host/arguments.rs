@@ -4,6 +4,7 @@ pub const USAGE: &str = "\
 --count N         random programs (5000)
 --seed N          seed of the random programs (1)
 --length N        all short programs of up to so many words (6)
+--steps N         statements, passes and enumerated values that one program may take (30000)
 --record FILE     write a recorded list of --count programs and their lines
 --benchmark       time genfer and Woolquern
 --explain TEXT    all that is said of one program";
@@ -22,6 +23,7 @@ pub struct Arguments {
     pub count: u64,
     pub seed: u64,
     pub length: usize,
+    pub steps: u64,
 }
 
 impl Arguments {
@@ -31,6 +33,7 @@ impl Arguments {
             count: 5_000,
             seed: 1,
             length: 6,
+            steps: 30_000,
         };
         let mut words = words.iter();
         while let Some(word) = words.next() {
@@ -42,6 +45,7 @@ impl Arguments {
                 "--count" => arguments.count = number(value()?)?,
                 "--seed" => arguments.seed = number(value()?)?,
                 "--length" => arguments.length = number(value()?)? as usize,
+                "--steps" => arguments.steps = number(value()?)?,
                 "--record" => arguments.mode = Mode::Record(value()?.clone()),
                 "--benchmark" => arguments.mode = Mode::Benchmark,
                 "--explain" => arguments.mode = Mode::Explain(value()?.clone()),

@@ -2,6 +2,9 @@
 
 use crate::model::rules::Passes;
 
+/// More steps than any case by hand takes.
+pub const STEPS: u64 = 30_000;
+
 /// A text and its line.
 pub const CASES: [(&str, &str); 72] = [
     // Document 01, 'Run only'.

@@ -1,6 +1,6 @@
 //! One program, all answers.
 
-use crate::answers::Genfer;
+use crate::answers::{cannot_normalize, Genfer, ADDS, MULTIPLIES};
 use crate::model::{self, Accepted, Answer, Limits, Outcome, Refusal, Start};
 use crate::{genfer_side, library, watch};
 
@@ -140,18 +140,13 @@ fn expected(answer: &Answer, accepted: &Accepted) -> Genfer {
     }
 }
 
-/// Genfer's message for a refusal: a product of an assignment, the `v + 1` of a set test, or a
-/// given variable without a finite range.
 fn panic_message(refusal: &Refusal, words: &[u64]) -> String {
     let word = words[refusal.place];
     match (refusal.number, word) {
-        (8, 2) => "attempt to multiply with overflow".to_string(),
-        (8, 1) => "attempt to add with overflow".to_string(),
-        (9, variable) => format!(
-            "Cannot normalize with respect to variable `{}`, because its value could not be proven to be bounded.",
-            genfer_side::variable_name(variable)
-        ),
-        _ => format!("nothing that explains refusal {} at a word {}", refusal.number, word),
+        (8, 2) => MULTIPLIES.to_string(),
+        (8, 1) => ADDS.to_string(),
+        (9, variable) => cannot_normalize(&genfer_side::variable_name(variable)),
+        (number, _) => format!("nothing: {} cannot stand at the word {}", number, word),
     }
 }
 

@@ -1,10 +1,10 @@
 //! The inputs of docs/DIFFERENCES.md with both answers, so that every run verifies that page.
 
-use crate::answers::Genfer;
+use crate::answers::{cannot_normalize, Genfer, ADDS, MULTIPLIES};
+use crate::cases::STEPS;
 use crate::genfer_side;
 use crate::model::ranges::Range;
 use crate::model::{self, text, Limits, Start};
-use crate::run::STEPS;
 
 pub struct Difference {
     pub text: String,
@@ -15,9 +15,6 @@ pub struct Difference {
     genfer: Genfer,
 }
 
-const MULTIPLIES: &str = "attempt to multiply with overflow";
-const ADDS: &str = "attempt to add with overflow";
-const UNBOUNDED: &str = "Cannot normalize with respect to variable `a`, because its value could not be proven to be bounded.";
 const NO_SUCH_VARIABLE: &str = "index out of bounds: the len is 0 but the index is 0";
 
 /// Inputs that are texts.
@@ -30,6 +27,7 @@ pub fn of_texts() -> Vec<Difference> {
 
 /// Genfer panics, Woolquern refuses.
 fn stops() -> Vec<Difference> {
+    let unbounded = &cannot_normalize("a");
     vec![
         stops_with(
             "[2,1,0,0,5,65536,2,0,0,1,65536,0,0]",
@@ -46,14 +44,14 @@ fn stops() -> Vec<Difference> {
             "refused 8 at 8",
             ADDS,
         ),
-        stops_with("[2,1,0,0,9,7,1,0,0]", "refused 9 at 7", UNBOUNDED),
-        stops_with("[2,6,7,1,0,1,3,0,0]", "refused 9 at 4", UNBOUNDED),
+        stops_with("[2,1,0,0,9,7,1,0,0]", "refused 9 at 7", unbounded),
+        stops_with("[2,6,7,1,0,1,3,0,0]", "refused 9 at 4", unbounded),
         stops_with("[1,7,1,0,0]", "refused 5 at 3", NO_SUCH_VARIABLE),
-        stops_with("[2,6,7,1,0,0]", "refused 5 at 4", UNBOUNDED),
+        stops_with("[2,6,7,1,0,0]", "refused 5 at 4", unbounded),
         stops_with(
             "[3,1,0,0,5,4096,1,1,0,9,7,2,0,1,0]",
             "refused 10 at 12",
-            "Cannot normalize with respect to variable `b`, because its value could not be proven to be bounded.",
+            &cannot_normalize("b"),
         ),
         stops_with(
             "[3,1,0,0,5,65536,2,0,0,1,65536,0,0,1,0,0,13]",

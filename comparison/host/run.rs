@@ -2,7 +2,7 @@
 
 use crate::arguments::Arguments;
 use crate::benchmark;
-use crate::cases::{CASES, PASSES};
+use crate::cases::{self, CASES, PASSES};
 use crate::compare::{Judge, Verdict};
 use crate::coverage::Coverage;
 use crate::damage::{self, text_of};
@@ -13,9 +13,6 @@ use crate::programs::{long_program, program, start, Reach};
 use crate::random::Random;
 use crate::shrink;
 use crate::{genfer_side, library};
-
-/// Statements, passes and enumerated values that one program may take.
-pub const STEPS: u64 = 30_000;
 
 /// After so many failures the smallest program is no longer looked for.
 const MOST_SHRUNK: u64 = 3;
@@ -32,7 +29,7 @@ struct Run {
 
 /// Answers how many programs failed.
 pub fn compare(arguments: &Arguments) -> u64 {
-    let mut run = Run::new(Judge::of_document(STEPS));
+    let mut run = Run::new(Judge::of_document(arguments.steps));
     println!("seed {}; {}", arguments.seed, compared());
     run.cases();
     if genfer_side::PRESENT || library::PRESENT {
@@ -76,12 +73,12 @@ impl Run {
 
     fn cases(&mut self) {
         for (text, line) in CASES {
-            let model = model::of_text(text.as_bytes(), &self.judge.limits, STEPS);
+            let model = model::of_text(text.as_bytes(), &self.judge.limits, cases::STEPS);
             self.expect(text, line, &model.outcome.to_string());
             self.check(text.as_bytes());
         }
         for (text, passes) in PASSES {
-            let model = model::of_text(text.as_bytes(), &self.judge.limits, STEPS);
+            let model = model::of_text(text.as_bytes(), &self.judge.limits, cases::STEPS);
             let said = model
                 .accepted
                 .and_then(|program| Some(program.loops.last()?.passes));
@@ -151,7 +148,7 @@ impl Run {
     /// Genfer against the model's rules beyond document 01's limits: nothing else differs there.
     fn without_limits(&mut self, arguments: &Arguments) {
         let mut random = Random::new(arguments.seed);
-        let mut run = Run::new(Judge::lifted(STEPS));
+        let mut run = Run::new(Judge::lifted(arguments.steps));
         for _ in 0..arguments.count / 4 {
             let words = program(&mut random, Reach::BEYOND);
             run.check_words(&words);
