@@ -465,10 +465,7 @@ impl Writer<'_> {
         }
         match self.random.weighted(&[25, 25, 15, 10, 30]) {
             0 => self.counting_loop(nesting),
-            1 => {
-                count += 1;
-                self.flag_loop(nesting);
-            }
+            1 => return count + self.flag_loop(nesting),
             2 => self.countdown_loop(nesting),
             3 => self.growing_loop(nesting),
             _ => self.any_loop(nesting),
@@ -497,17 +494,24 @@ impl Writer<'_> {
     }
 
     /// The flag is put up; while it is up it is drawn anew and mostly another variable changes, so
-    /// that the loop joins and widens. Two statements.
-    fn flag_loop(&mut self, nesting: Nesting) {
+    /// that the loop joins and widens. Answers how many statements stand before the loop.
+    fn flag_loop(&mut self, nesting: Nesting) -> u64 {
         let focus = self.focus;
+        let (drawn, change) = ([1, focus, 0, 2], self.change());
+        let falls = change[0] == 3 && self.random.one_in(2);
+        if falls {
+            // High enough that it still falls after 100 joins.
+            let high = self.random.between(100, 900);
+            self.push(&[2, change[1], 0, 0, 0, 0, high]);
+        }
         self.push(&[2, focus, 0, 0, 0, 0, 1, 5]);
         self.unroll(nesting);
         self.push(&[1, focus, 1, 1]);
-        let (drawn, change) = ([1, focus, 0, 2], self.change());
         match self.random.below(3) {
             0 => self.body_with(nesting, &[&drawn]),
             _ => self.body_with(nesting, &[&drawn, &change]),
         }
+        1 + u64::from(falls)
     }
 
     fn countdown_loop(&mut self, nesting: Nesting) {
