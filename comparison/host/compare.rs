@@ -1,0 +1,183 @@
+//! One program, all answers.
+
+use crate::answers::{cannot_normalize, Genfer, ADDS, MULTIPLIES};
+use crate::model::{self, Accepted, Answer, Limits, Outcome, Refusal, Start};
+use crate::{genfer_side, library, watch};
+
+/// Which limits hold, and how many steps the model may spend on a program.
+pub struct Judge {
+    pub limits: Limits,
+    pub steps: u64,
+    /// Woolquern has document 01's limits and takes no part where they are lifted.
+    pub with_library: bool,
+}
+
+pub enum Verdict {
+    Agree(Answer),
+    /// Only the model was asked: genfer has no such program, and the library is not here.
+    Alone(Answer),
+    /// The program takes more steps than are allowed to one: nobody else is asked.
+    TooLong,
+    /// All answers, and which of them differ.
+    Differ(String),
+}
+
+impl Judge {
+    pub fn of_document(steps: u64) -> Judge {
+        Judge {
+            limits: Limits::of_document(),
+            steps,
+            with_library: library::PRESENT,
+        }
+    }
+
+    pub fn lifted(steps: u64) -> Judge {
+        Judge {
+            limits: Limits::lifted(),
+            steps,
+            with_library: false,
+        }
+    }
+
+    pub fn judge(&self, text: &[u8]) -> Verdict {
+        watch::over(text, || self.verdict(text))
+    }
+
+    fn verdict(&self, text: &[u8]) -> Verdict {
+        let answer = model::of_text(text, &self.limits, self.steps);
+        if answer.outcome == Outcome::TooLong {
+            return Verdict::TooLong;
+        }
+        let judged = self
+            .library_agrees(text, &answer)
+            .and_then(|()| genfer_agrees(&answer));
+        let alone = !self.with_library && asks_genfer(&answer).is_none();
+        match judged {
+            Ok(()) if alone => Verdict::Alone(answer),
+            Ok(()) => Verdict::Agree(answer),
+            Err(difference) => Verdict::Differ(self.all_answers(text, &answer, &difference)),
+        }
+    }
+
+    /// Genfer against the model from the caller's ranges; the library takes a text only.
+    pub fn judge_from(&self, words: &[u64], start: &Start) -> Verdict {
+        let answer = model::from_start(words.to_vec(), start, &self.limits, self.steps);
+        if answer.outcome == Outcome::TooLong {
+            return Verdict::TooLong;
+        }
+        let judged = match asks_genfer(&answer) {
+            None => return Verdict::Alone(answer),
+            Some(accepted) => {
+                let said = genfer_side::answer_from(words, start);
+                same("genfer's answer", said, expected(&answer, accepted))
+            }
+        };
+        match judged {
+            Ok(()) => Verdict::Agree(answer),
+            Err(difference) => Verdict::Differ(difference),
+        }
+    }
+
+    fn library_agrees(&self, text: &[u8], answer: &Answer) -> Result<(), String> {
+        if !self.with_library {
+            return Ok(());
+        }
+        let line = library::line(text).map_err(|wrong| format!("Woolquern {}", wrong))?;
+        same("Woolquern's line", line, answer.outcome.to_string())
+    }
+
+    fn all_answers(&self, text: &[u8], answer: &Answer, difference: &str) -> String {
+        let mut report = format!("differs: {}\n  model: {}\n", difference, answer.outcome);
+        if let Some(accepted) = asks_genfer(answer) {
+            let said = genfer_side::answer(&accepted.words);
+            report += &format!("  genfer: {:?}\n", said);
+        }
+        if self.with_library {
+            report += &format!("  Woolquern: {:?}\n", library::line(text));
+        }
+        report
+    }
+}
+
+/// Genfer is asked about programs within the limits. It would go over every value where document 01
+/// refuses to (10).
+fn asks_genfer(answer: &Answer) -> Option<&Accepted> {
+    let enumerates = matches!(answer.outcome, Outcome::Refused(Refusal { number: 10, .. }));
+    let asked = genfer_side::PRESENT && !enumerates;
+    answer.accepted.as_ref().filter(|_| asked)
+}
+
+fn genfer_agrees(answer: &Answer) -> Result<(), String> {
+    let accepted = match asks_genfer(answer) {
+        None => return Ok(()),
+        Some(accepted) => accepted,
+    };
+    let said = genfer_side::answer(&accepted.words);
+    same("genfer's answer", said, expected(answer, accepted))?;
+    let trail = genfer_side::trail(&accepted.words);
+    trail_agrees(&trail, &accepted.trail)?;
+    place_agrees(&answer.outcome, accepted, &trail)?;
+    last_loop_agrees(accepted)
+}
+
+/// Genfer overflows in the statement that it came to last.
+fn place_agrees(outcome: &Outcome, accepted: &Accepted, trail: &[u64]) -> Result<(), String> {
+    match outcome {
+        Outcome::Refused(Refusal { number: 8, place }) => {
+            let last = trail.last().map(|place| *place as usize);
+            let expected = accepted.program.statement_at(*place);
+            same("genfer's last statement", last, expected)
+        }
+        _ => Ok(()),
+    }
+}
+
+/// What genfer is to say, by the model.
+fn expected(answer: &Answer, accepted: &Accepted) -> Genfer {
+    match &answer.outcome {
+        Outcome::Refused(refusal) => Genfer::Stopped(panic_message(refusal, &accepted.words)),
+        outcome => Genfer::Returned(outcome.to_string()),
+    }
+}
+
+fn panic_message(refusal: &Refusal, words: &[u64]) -> String {
+    let word = words[refusal.place];
+    match (refusal.number, word) {
+        (8, 2) => MULTIPLIES.to_string(),
+        (8, 1) => ADDS.to_string(),
+        (9, variable) => cannot_normalize(&genfer_side::variable_name(variable)),
+        (number, _) => format!("nothing: {} cannot stand at the word {}", number, word),
+    }
+}
+
+/// Both came by the same places in the same order.
+fn trail_agrees(genfer: &[u64], model: &[u64]) -> Result<(), String> {
+    let common = genfer.iter().zip(model).take_while(|(a, b)| a == b).count();
+    let next = |trail: &[u64]| trail.get(common).copied();
+    let what = format!("after {} places genfer's next", common);
+    same(&what, next(genfer), next(model))
+}
+
+fn last_loop_agrees(accepted: &Accepted) -> Result<(), String> {
+    let (genfer, model) = match (
+        genfer_side::last_loop(&accepted.words),
+        accepted.loops.last(),
+    ) {
+        (Some(genfer), Some(model)) => (genfer, model),
+        _ => return Ok(()),
+    };
+    same(
+        "genfer's settled state",
+        genfer.settled,
+        model.settled.to_string(),
+    )?;
+    let search = genfer.index.map_or(100, |index| index + 1);
+    same("genfer's search", search, model.passes.search)
+}
+
+fn same<T: PartialEq + std::fmt::Debug>(what: &str, other: T, model: T) -> Result<(), String> {
+    if other == model {
+        return Ok(());
+    }
+    Err(format!("{} is {:?}, the model's {:?}", what, other, model))
+}
