@@ -16,12 +16,12 @@ use Rattle.ranges.specs.declared.Range.the-variants.{Empty, Span}
 use Rattle.ranges.specs.Ranges.{point}
 use Rattle.states.specs.declared.Cell.{Cell}
 use Rattle.states.specs.declared.State.{State}
-use Rattle.states.specs.States.{Fit}
 use Rattle.states.specs.Answers.{Answer, Gives, Refuses, answered}
 use Rattle.states.specs.States as states
 use Rattle.text.specs.Answers.{of-answer}
 use Rattle.text.specs.Grammar.{digit-is, both, left, right, many, none, next, DIGIT, int, decimal}
 use Rattle.text.specs.Line.{ascii, digits, to-end, range, further, joined, cell, refusal, line}
+use Rattle.text.specs.Tells.{Told, refuses, nothing, ranges, ranges-of, told, Canonical}
 use Rattle.text.proofs.Digits.{writes}
 
 -- ---- numbers: digits read from the front, and what is left behind them
@@ -128,19 +128,6 @@ further-once (r ∷ rs) (q ∷ qs) h =
 
 -- ---- whole lines
 
--- what a line tells of an answer: the refusal, that the state is empty, or its ranges
-pub data Told : Type 0 where
-  refuses : (number place : ℕ) → Told
-  nothing : Told
-  ranges : List Range → Told
-
-abbrev pub ranges-of : ℕ → State → List Range
-ranges-of n s = map (λ c. c .range) (take n (s .cells))
-
-abbrev pub told : ℕ → Answer State → Told
-told n (Gives s) = cond (s .live) (ranges (ranges-of n s)) nothing
-told n (Refuses number place) = refuses number place
-
 abbrev printing : Told → List ℕ
 printing (refuses number place) = refusal number place ++ ascii "\n"
 printing nothing = ascii "empty\n"
@@ -212,11 +199,6 @@ pub line-ranges : (n : ℕ) (s t : State) → line n (Gives s) ≡ line n (Gives
 line-ranges n s t h =
     let r = told-once (s .live) (t .live) (ranges-of n s) (ranges-of n t) (line-told n (Gives s) (Gives t) h) in
     (r .0, λ l v k. sym (get-of n v s k) ∙ ap (λ (rs : List Range). getD rs v (point 0)) (r .1 l) ∙ get-of n v t k)
-
--- a state as document 01 has it: an empty one is the empty state
-pub record Canonical (n : ℕ) (s : State) : Type 0 where
-  pub fit : Fit n s
-  pub dead : s .live ≡ false → s ≡ states.empty
 
 same-state : (s t : State) → s .live ≡ t .live → s .cells ≡ t .cells → s ≡ t
 same-state s t p q = ap₂ (λ (b : Bool) (cs : List Cell). record { live = b; cells = cs }) p q

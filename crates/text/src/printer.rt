@@ -12,7 +12,7 @@ ghost use Rattle.text.specs.Answers as answers;
 ghost use Rattle.text.specs.Draft.{Put, item};
 ghost use Rattle.text.specs.Line as lines;
 
-// Puts bytes into the draft from `at` on, and answers the place after them. The caller keeps room.
+// Puts bytes into the draft from `at` on, and answers the place after them, as all functions here do; their callers keep the room.
 fn put_bytes(draft: &mut [u8], at: usize, bytes: &[u8]) -> usize
     requires { ⌜ at + length (now bytes) ≤ length (now draft) ⌝ }
     ensures { λ r. ⌜ Put (now (draft .entry)) at (now (bytes .entry)) r (now (draft .exit)) ⌝ }
@@ -107,6 +107,7 @@ fn put_ranges(draft: &mut [u8], state: State, n: usize) -> usize
     at
 }
 
+// The ranges of a state, or that it is empty.
 fn put_state(draft: &mut [u8], state: State, n: usize) -> usize
     requires { ⌜ 2048 ≤ length (now draft) ⌝ }
     ensures { λ r. ⌜ Put (now (draft .entry)) 0 (lines.state n state) r (now (draft .exit)) ⌝ }
@@ -118,15 +119,16 @@ fn put_state(draft: &mut [u8], state: State, n: usize) -> usize
     put_bytes(draft, 0, b"empty")
 }
 
+// A refusal by its number and place.
 fn put_refusal(draft: &mut [u8], number: u64, place: usize) -> usize
     requires { ⌜ 2048 ≤ length (now draft) ⌝ }
     ensures { λ r. ⌜ Put (now (draft .entry)) 0 (lines.refusal number place) r (now (draft .exit)) ⌝ }
     ensures { λ r. ⌜ r ≤ 1984 ⌝ }
 {
-    let a = put_bytes(draft, 0, b"refused ");
-    let b = put_number(draft, a, number);
-    let c = put_bytes(draft, b, b" at ");
-    put_number(draft, c, place as u64)
+    let first = put_bytes(draft, 0, b"refused ");
+    let middle = put_number(draft, first, number);
+    let second = put_bytes(draft, middle, b" at ");
+    put_number(draft, second, place as u64)
 }
 
 // The line without its line feed.

@@ -1,0 +1,28 @@
+-- What a line tells of an answer, and the states that it tells apart.
+use mathlib.Core.Path.{_≡_}
+use mathlib.Core.Bool.{false, cond}
+use mathlib.Core.List.{List, map}
+use Prim.Native.Nat.{ℕ}
+use lib.ListN.{take}
+use Rattle.ranges.specs.declared.Range.{Range}
+use Rattle.states.specs.declared.State.{State}
+use Rattle.states.specs.States as states
+use Rattle.states.specs.Answers.{Answer, Gives, Refuses}
+
+-- A refusal, that the state is empty, or its ranges.
+pub data Told : Type 0 where
+  refuses : (number place : ℕ) → Told
+  nothing : Told
+  ranges : List Range → Told
+
+abbrev pub ranges-of : ℕ → State → List Range
+ranges-of n s = map (λ c. c .range) (take n (s .cells))
+
+abbrev pub told : ℕ → Answer State → Told
+told n (Gives s) = cond (s .live) (ranges (ranges-of n s)) nothing
+told n (Refuses number place) = refuses number place
+
+-- A state of n variables in the one form that it has: 64 cells, those from n on [0,0], and all of them where it is empty.
+pub record Canonical (n : ℕ) (s : State) : Type 0 where
+  pub fit : states.Fit n s
+  pub dead : s .live ≡ false → s ≡ states.empty
