@@ -28,8 +28,8 @@ use Rattle.paper.proofs.Sure.{Sure, given, refused, sure-then, sure-by,
 use Rattle.paper.proofs.Held.{holds-dead}
 use Rattle.paper.proofs.Splits.{event-ok}
 use Rattle.paper.proofs.Sound.{looping-ok, list-ok}
-use Rattle.paper.proofs.ReaderSound.{Codes, letter, all-at, unless-is}
-use Rattle.paper.proofs.ReaderSound as reads
+use Rattle.paper.proofs.Reading.{read-is-code}
+use Rattle.paper.proofs.Spelled.{Codes, letter, all-at, unless-is}
 use Rattle.paper.proofs.Within.{event-below, below}
 use Rattle.paper.proofs.Starts.{Admitted, admitted-ok}
 use Rattle.paper.proofs.Visits.{list-loops, statement-loops}
@@ -64,7 +64,7 @@ analysed-ok ws n cs u long =
     sure-by (answers.admitted ws n u cs) (λ s a.
     let A : Admitted n cs s = sure-of (admitted-ok ws n u cs long) a in
     sure-read (reader.program ws n) (λ p i e.
-    sure-map (list-ok (record { n = n; unroll = u }) (A .small) p 1 s (below n (reads.sound ws n e .within)) (A .fit)) (λ t T. record {
+    sure-map (list-ok (record { n = n; unroll = u }) (A .small) p 1 s (below n (read-is-code ws n e .within)) (A .fit)) (λ t T. record {
       program = p;
       next = i;
       read = e;
@@ -73,7 +73,7 @@ analysed-ok ws n cs u long =
       fit = T .fit;
       covers = λ σ τ h r. T .held σ τ (A .held σ h) r;
       none-ends = λ d σ τ h r. holds-dead d (T .held σ τ (A .held σ h) r);
-      loops = list-loops (record { n = n; unroll = u }) (A .small) p 1 s (below n (reads.sound ws n e .within)) (A .fit);
+      loops = list-loops (record { n = n; unroll = u }) (A .small) p 1 s (below n (read-is-code ws n e .within)) (A .fit);
     })))
 
 pub analysed-covers : (ws : List ℕ) (n : ℕ) (cs : List Cell) (u : ℕ) (t : State) → length cs ≡ 64 → answers.analysed ws n cs u ≡ Gives t → Covers ws n cs u t
@@ -130,7 +130,7 @@ looped-ok ws n cs u long =
     let A : Admitted n cs s = sure-of (admitted-ok ws n u cs long) a in
     sure-then (begins-one ws) (λ _ one.
     sure-read (reader.program ws n) (λ p i e.
-    sure-map (entry (record { n = n; unroll = u }) (A .small) p s (below n (reads.sound ws n e .within)) (A .fit) (one p (reads.sound ws n e .is))) (λ l E. record {
+    sure-map (entry (record { n = n; unroll = u }) (A .small) p s (below n (read-is-code ws n e .within)) (A .fit) (one p (read-is-code ws n e .is))) (λ l E. record {
       unroll = E .unroll;
       event = E .event;
       body = E .body;
