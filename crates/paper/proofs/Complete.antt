@@ -1,4 +1,4 @@
--- The code of a tree within the limits is read as that tree. Assumes nothing.
+-- The code of a tree within the limits is read as that tree.
 use mathlib.Core.Path.{_≡_, refl, ap, sym, _∙_}
 use mathlib.Core.Bool.{Bool, true, false, _&&_}
 use mathlib.Core.List.{List, [], _∷_, _++_, append-assoc, append-nil}
@@ -190,10 +190,3 @@ complete n p g =
     let d = simp length-drop at (ap length (b .there .is)) in
     let e : b .next ≡ length ws = omega (arith, b .there .inside) in
     rw (b .same, e, eq-eqb (length ws) (length ws) refl)
-
--- a code has one tree within the limits
-pub unique : (n : ℕ) (p q : Statements) → ProgramIn n p → ProgramIn n q → code.program p ≡ code.program q → p ≡ q
-unique n p q g h e =
-    let a = complete n p g in
-    let b = rw (← e) at (complete n q h) in
-    cc

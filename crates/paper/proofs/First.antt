@@ -1,4 +1,4 @@
--- A refusal is at the first word that cannot stand there: whatever follows it, the answer is the same. Assumes nothing.
+-- Whatever follows a refused word, the answer is the same.
 use mathlib.Core.Path.{_≡_, refl, ap, sym, _∙_}
 use mathlib.Core.Bool.{Bool, true, false, _&&_}
 use mathlib.Core.List.{List, [], _∷_}
@@ -9,11 +9,8 @@ use lib.ListN.{length, getD}
 use borrow.Author.Tests.{lt-ltb, ltb-true, ltb-false, eqb-true, eqb-false, eq-eqb, ne-eqb}
 use Rattle.ranges.specs.Ranges as ranges
 use Rattle.paper.specs.Tree.{Draw, Event, Events, none, _also_, Statement, Statements, done, _then_}
-use Rattle.paper.specs.Code as code
 use Rattle.paper.specs.Reader as reader
 use Rattle.paper.specs.Reader.{Reading, Read, Bad, and-read, if-read, by-kind, many, whole}
-use Rattle.paper.specs.Limits.{ProgramIn}
-use Rattle.paper.proofs.Complete.{complete}
 
 -- vs has the words of ws below b
 pub record Agree (ws vs : List ℕ) (b : ℕ) : Type 0 where
@@ -291,9 +288,9 @@ module _ (ws vs : List ℕ) (b : ℕ) (agree : Agree ws vs b) where
 
 -- a list with the same words as far as the refused one is refused there too
 module _ (ws vs : List ℕ) (n k at : ℕ) (r : reader.program ws n ≡ Bad k at) (inside : at < length ws) (agree : Agree ws vs (suc at)) where
-  pub first : reader.program vs n ≡ Bad k at
+  pub refused-alike : reader.program vs n ≡ Bad k at
   unfolding reader.program SameBy and-read if-read
-  first = go (reader.block ws (reader.statement ws n 16 3) 0) (same-block ws vs (suc at) agree _ _ (same-statement ws vs (suc at) agree n 16 3) 0) r
+  refused-alike = go (reader.block ws (reader.statement ws n 16 3) 0) (same-block ws vs (suc at) agree _ _ (same-statement ws vs (suc at) agree n 16 3) 0) r
     where
       go : (m : Reading Statements) → Same ws (suc at) 0 m (reader.block vs (reader.statement vs n 16 3) 0) → and-read m (λ p j. if-read (eqb j (length ws)) (Read p j) (Bad 3 j)) ≡ Bad k at → reader.program vs n ≡ Bad k at
       go (Read p j) s e = ends (eqb j (length ws)) refl e
@@ -311,11 +308,3 @@ module _ (ws vs : List ℕ) (n k at : ℕ) (r : reader.program ws n ≡ Bad k at
       go (Bad q p) s e =
           let pat : p ≡ at = cc in
           rw (s .holds (omega arith) .1 (omega arith)) e
-
--- so no program within the limits begins with the words up to there
-pub no-program : (ws : List ℕ) (n k at : ℕ) → reader.program ws n ≡ Bad k at → at < length ws → (p : Statements) → ProgramIn n p → Agree ws (code.program p) (suc at) → ⊥
-no-program ws n k at r inside p g agree =
-    let a = first ws (code.program p) n k at r inside agree in
-    let b = complete n p g in
-    let z : _≡_ {A = ℕ} 0 1 = cc in
-    omega arith

@@ -1,4 +1,4 @@
--- Which trees are within the limits, over n variables.
+-- Which trees are within the limits over n variables: document 01, "Words" and "Most allowed".
 use mathlib.Core.Path.{_≡_}
 use mathlib.Core.Bool.{Bool}
 use mathlib.Core.List.{List, [], _∷_}
@@ -11,20 +11,23 @@ use Rattle.paper.specs.Tree.{Event, InSet, VarComparison, DataFromDist, 
 use Rattle.paper.specs.Tree.{Addend, Nought, Times, Unroll, Default, Turns}
 use Rattle.paper.specs.Tree.{Statement, Sample, Assign, Decrement, IfThenElse, While, Fail, Normalize, Statements, done, _then_}
 
+-- a value fits u32
 abbrev pub Small : ℕ → Type 0
 Small x = x ≤ ranges.top
 
+-- each of a list
 unfoldable pub Each : (ℕ → Type 0) → List ℕ → Type 0
 Each P [] = Unit {0}
 Each P (x ∷ xs) = P x × Each P xs
 
--- p / q is a whole number of 32 bits
+-- draw 1 is a u32 integer
 pub record Whole (p q : ℕ) : Type 0 where
   pub divides : 0 < q
   pub exact : p % q ≡ 0
   pub small : Small (p / q)
 
 module _ (n : ℕ) where
+  -- a draw's variables are below n, its values fit u32; numer and denom need not
   unfoldable pub DrawIn : Draw → Type 0
   DrawIn (Dirac p q) = Whole p q
   DrawIn Bernoulli = Unit {0}
@@ -39,15 +42,17 @@ module _ (n : ℕ) where
   DrawIn (PoissonVarRate v) = v < n
   DrawIn (Uniform a b) = Small a × Small b
 
+  -- factor fits u32, and w is below n where there is one
   unfoldable pub AddendIn : Addend → Type 0
   AddendIn Nought = Unit {0}
   AddendIn (Times f w) = Small f × (w < n)
 
+-- unroll 10,000
 unfoldable pub UnrollIn : Unroll → Type 0
 UnrollIn Default = Unit {0}
 UnrollIn (Turns u) = u ≤ 10000
 
--- an event that nests `deep` deep at most
+-- an event that nests `deep` deep at most, one more for each nesting; 256 values in a set
 mutual
   pub data EventIn (n : ℕ) : ℕ → Event → Type 0 where
     set : {deep v : ℕ} {xs : List ℕ} → v < n → length xs ≤ 256 → Each Small xs → EventIn n (suc deep) (InSet v xs)
@@ -60,7 +65,7 @@ mutual
     no-event : {deep : ℕ} → EventsIn n deep none
     and-event : {deep : ℕ} {e : Event} {es : Events} → EventIn n deep e → EventsIn n deep es → EventsIn n deep (e also es)
 
--- a statement that nests `deep` deep and `loops` loops deep at most
+-- a statement that nests `deep` deep and `loops` loops deep at most, its event as deep as it is; 8 given variables
 mutual
   pub data StatementIn (n : ℕ) : ℕ → ℕ → Statement → Type 0 where
     sample : {deep loops v : ℕ} {a : Bool} {d : Draw} → v < n → DrawIn n d → StatementIn n (suc deep) loops (Sample v a d)
@@ -75,7 +80,7 @@ mutual
     no-statement : {deep loops : ℕ} → StatementsIn n deep loops done
     and-statement : {deep loops : ℕ} {c : Statement} {cs : Statements} → StatementIn n deep loops c → StatementsIn n deep loops cs → StatementsIn n deep loops (c then cs)
 
--- a whole program
+-- a program: depth 16, loops 3 deep
 abbrev pub ProgramIn : ℕ → Statements → Type 0
 ProgramIn n p = StatementsIn n 16 3 p
 

@@ -360,6 +360,11 @@ flag-is : (x : ℕ) (add : Bool) → x ≡ code.flag add → add ≡ eqb x 1
 flag-is x true k = rw k
 flag-is x false k = rw k
 
+-- a loop's event stands after its two words, whatever they are
+pub unroll-after : {ws : List ℕ} {at x : ℕ} (u : Unroll) {l : List ℕ} → Begins ws at (x ∷ code.unroll u ++ l) → Begins ws (at + 3) l
+unroll-after Default h = begins-after-three h
+unroll-after (Turns u) h = begins-after-three h
+
 module _ {ws : List ℕ} {at : ℕ} where
   statement-here : (c : Statement) → Begins ws at (code.statement c) → StatementShape ws at c (getD ws at 0)
   unfolding code.statement

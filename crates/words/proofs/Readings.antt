@@ -10,7 +10,7 @@ use Rattle.paper.specs.Code as code
 use Rattle.paper.specs.Tree.{Statements}
 use Rattle.paper.specs.Reader.{Reading, Read, Bad, and-read, by-kind, many, word, most, flag, event, event-kinds, statement, statement-kinds}
 use Rattle.paper.specs.Used.{used-event, used-statement}
-use Rattle.paper.proofs.ReaderSound.{most-at-most}
+use Rattle.paper.proofs.Spelled.{most-at-most}
 use Rattle.words.specs.declared.Checked.the-variants as checked-is
 use Rattle.words.specs.Words.{seen, itself, unused, checked, used-of}
 use Rattle.words.specs.declared.Seen.{Seen}

@@ -1,4 +1,4 @@
--- What is read is the code of a tree within the limits. Assumes nothing.
+-- What is read is spelled by the words: it is the code of a tree within the limits.
 use mathlib.Core.Path.{_≡_, refl, ap, sym, _∙_}
 use mathlib.Core.Bool.{Bool, true, false, _&&_}
 use mathlib.Core.List.{List, [], _∷_, _++_, append-assoc, append-nil}
@@ -48,10 +48,10 @@ module _ {A : Type 0} {P : A → ℕ → Type 0} where
   all-then (Bad i p) f h k = record { holds = tt }
 
   -- what follows from what is read
-  all-then′ : {S : A → ℕ → Type 0} (m : Reading A) → All S m → ((a : A) (j : ℕ) → S a j → P a j) → All P m
+  all-so : {S : A → ℕ → Type 0} (m : Reading A) → All S m → ((a : A) (j : ℕ) → S a j → P a j) → All P m
   unfolding AllBy
-  all-then′ (Read a j) h k = record { holds = k a j (h .holds) }
-  all-then′ (Bad i p) h k = record { holds = tt }
+  all-so (Read a j) h k = record { holds = k a j (h .holds) }
+  all-so (Bad i p) h k = record { holds = tt }
 
   pub all-at : (m : Reading A) {a : A} {j : ℕ} → All P m → m ≡ Read a j → P a j
   unfolding AllBy
@@ -59,50 +59,64 @@ module _ {A : Type 0} {P : A → ℕ → Type 0} where
       let k : All P (Read a j) = rw e at h in
       k .holds
 
--- each kind by itself
-unfoldable Kinds : {A : Type 0} → (A → ℕ → Type 0) → ℕ → ℕ → List (ℕ → Reading A) → ℕ → Type 0
-Kinds P kind k [] i = Unit {0}
-Kinds P kind k (m ∷ ms) i = (kind ≡ k → All P (m i)) × Kinds P kind (suc k) ms i
+-- what holds of the reading of each kind, and of any other, holds of the reading by kind
+unfoldable pub Kinds : {A : Type 0} → (Reading A → Type 0) → ℕ → ℕ → List (ℕ → Reading A) → ℕ → Type 0
+Kinds R kind k [] i = Unit {0}
+Kinds R kind k (m ∷ ms) i = (kind ≡ k → R (m i)) × Kinds R kind (suc k) ms i
 
-module _ {A : Type 0} (P : A → ℕ → Type 0) where
-  kinds-from : (kind k j : ℕ) (ms : List (ℕ → Reading A)) (other : ℕ → Reading A) (i : ℕ) → kind ≡ k + j → Kinds P kind k ms i → All P (other i) → All P (by-kind (suc j) ms other i)
+module _ {A : Type 0} (R : Reading A → Type 0) where
+  kinds-from : (kind k j : ℕ) (ms : List (ℕ → Reading A)) (other : ℕ → Reading A) (i : ℕ) → kind ≡ k + j → Kinds R kind k ms i → R (other i) → R (by-kind (suc j) ms other i)
   unfolding Kinds by-kind
   kinds-from kind k j [] other i e h o = o
   kinds-from kind k zero (m ∷ ms) other i e h o = h .0 (omega arith)
   kinds-from kind k (suc j) (m ∷ ms) other i e h o = kinds-from kind (suc k) j ms other i (omega arith) (h .1) o
 
-  all-kind : (kind : ℕ) (ms : List (ℕ → Reading A)) (other : ℕ → Reading A) (i : ℕ) → Kinds P kind 1 ms i → All P (other i) → All P (by-kind kind ms other i)
+  pub each-kind : (kind : ℕ) (ms : List (ℕ → Reading A)) (other : ℕ → Reading A) (i : ℕ) → Kinds R kind 1 ms i → R (other i) → R (by-kind kind ms other i)
   unfolding by-kind
-  all-kind zero [] other i h o = o
-  all-kind zero (m ∷ ms) other i h o = o
-  all-kind (suc j) ms other i h o = kinds-from (suc j) 1 j ms other i (omega arith) h o
+  each-kind zero [] other i h o = o
+  each-kind zero (m ∷ ms) other i h o = o
+  each-kind (suc j) ms other i h o = kinds-from (suc j) 1 j ms other i (omega arith) h o
 
 module _ (ws : List ℕ) where
   -- the words from at to j are l
   pub record Spells (at : ℕ) (l : List ℕ) (j : ℕ) : Type 0 where
     pub is : drop at ws ≡ l ++ drop j ws
+    pub inside : at ≤ length ws → j ≤ length ws
 
 infixr 40 _&_
-_&_ : {ws : List ℕ} {at i j : ℕ} {l m : List ℕ} → Spells ws at l i → Spells ws i m j → Spells ws at (l ++ m) j
-_&_ {ws} {at} {i} {j} {l} {m} a b = record { is = a .is ∙ ap (λ (r : List ℕ). l ++ r) (b .is) ∙ sym (append-assoc l m (drop j ws)) }
+pub _&_ : {ws : List ℕ} {at i j : ℕ} {l m : List ℕ} → Spells ws at l i → Spells ws i m j → Spells ws at (l ++ m) j
+_&_ {ws} {at} {i} {j} {l} {m} a b = record {
+  is = a .is ∙ ap (λ (r : List ℕ). l ++ r) (b .is) ∙ sym (append-assoc l m (drop j ws));
+  inside = λ h. b .inside (a .inside h);
+}
 
-nothing : {ws : List ℕ} {at : ℕ} → Spells ws at [] at
-nothing = record { is = refl }
+pub nothing : {ws : List ℕ} {at : ℕ} → Spells ws at [] at
+nothing = record { is = refl; inside = λ h. h }
 
 -- a part that spells the code of a tree within limits
 pub record Codes {A : Type 0} (ws : List ℕ) (code : A → List ℕ) (Good : A → Type 0) (at : ℕ) (a : A) (j : ℕ) : Type 0 where
   pub spells : Spells ws at (code a) j
   pub good : Good a
 
+-- one word
 abbrev pub letter : ℕ → List ℕ
 letter x = x ∷ []
 
+-- lists with their counts
+abbrev pub conjunction : Events → List ℕ
+conjunction es = code.count-events es ∷ code.events es
+
+abbrev pub counted : List ℕ → List ℕ
+counted xs = length xs ∷ xs
+
 module _ (ws : List ℕ) where
-  word-is : (at : ℕ) → All (λ x j. Spells ws at (letter x) j) (reader.word ws at)
+  pub word-is : (at : ℕ) → All (λ x j. Spells ws at (letter x) j) (reader.word ws at)
   unfolding reader.word
   word-is at =
       all-if (ltb at (length ws)) _ _
-      (λ e. all-read (record { is = rw add-one (drop-cons ws at 0 (ltb-true _ _ e)) }))
+      (λ e.
+      let h : at < length ws = ltb-true _ _ e in
+      all-read (record { is = rw add-one (drop-cons ws at 0 h); inside = λ _. omega arith }))
       (λ e. all-bad)
 
   pub unless-is : (Good : ℕ → Type 0) (ok : ℕ → Bool) (k at : ℕ) → ((x : ℕ) → ok x ≡ true → Good x) → All (Codes ws letter Good at) (reader.unless ws ok k at)
@@ -111,17 +125,17 @@ module _ (ws : List ℕ) where
       all-then _ _ (word-is at)
       (λ x j s. all-if (ok x) _ _ (λ e. all-read (record { spells = s; good = g x e })) (λ e. all-bad))
 
-  most-is : (limit k at : ℕ) → All (Codes ws letter (λ x. x ≤ limit) at) (reader.most ws limit k at)
+  pub most-is : (limit k at : ℕ) → All (Codes ws letter (λ x. x ≤ limit) at) (reader.most ws limit k at)
   most-is limit k at = unless-is (λ x. x ≤ limit) (λ x. leb x limit) k at (λ x e. leb-true _ _ e)
 
   -- a word that is read with a limit is within it
   pub most-at-most : (limit k at : ℕ) {x i : ℕ} → reader.most ws limit k at ≡ Read x i → x ≤ limit
   most-at-most limit k at e = all-at (reader.most ws limit k at) (most-is limit k at) e .good
 
-  variable-is : (n at : ℕ) → All (Codes ws letter (λ x. x < n) at) (reader.variable ws n at)
+  pub variable-is : (n at : ℕ) → All (Codes ws letter (λ x. x < n) at) (reader.variable ws n at)
   variable-is n at = unless-is (λ x. x < n) (λ x. ltb x n) 5 at (λ x e. ltb-true _ _ e)
 
-  flag-is : (at : ℕ) → All (λ a j. Spells ws at (letter (code.flag a)) j) (reader.flag ws at)
+  pub flag-is : (at : ℕ) → All (λ a j. Spells ws at (letter (code.flag a)) j) (reader.flag ws at)
   unfolding reader.flag
   flag-is at = all-then _ _ (most-is 1 3 at) (λ x j h. all-read (go (eqb x 1) refl h))
     where
@@ -133,7 +147,7 @@ module _ (ws : List ℕ) where
           rw z at (h .spells)
 
   -- as many as a count says, each of which one reads
-  many-are : (Good : ℕ → Type 0) (one : ℕ → Reading ℕ) → ((at : ℕ) → All (Codes ws letter Good at) (one at)) → (k at : ℕ) → All (λ xs j. Spells ws at xs j × ((length xs ≡ k) × Each Good xs)) (many [] _∷_ one k at)
+  pub many-are : (Good : ℕ → Type 0) (one : ℕ → Reading ℕ) → ((at : ℕ) → All (Codes ws letter Good at) (one at)) → (k at : ℕ) → All (λ xs j. Spells ws at xs j × ((length xs ≡ k) × Each Good xs)) (many [] _∷_ one k at)
   unfolding many Each
   many-are Good one h zero at = all-read (nothing, (refl, tt))
   many-are Good one h (suc k) at =
@@ -151,20 +165,20 @@ and-right false b e = absurd (omega (arith, z))
     z : _≡_ {A = ℕ} 0 1
     z = cc
 
-whole-true : (p q : ℕ) → whole p q ≡ true → Whole p q
+pub whole-true : (p q : ℕ) → whole p q ≡ true → Whole p q
 whole-true p q e =
     let more = and-right (ltb 0 q) _ e in
     record { divides = ltb-true _ _ (and-left _ _ e); exact = eqb-true _ _ (and-left _ _ more); small = leb-true _ _ (and-right (eqb (p % q) 0) _ more) }
 
 -- a kind word
-kind-is : {ws : List ℕ} {at i x k : ℕ} → x ≡ k → Spells ws at (letter x) i → Spells ws at (letter k) i
+pub kind-is : {ws : List ℕ} {at i x k : ℕ} → x ≡ k → Spells ws at (letter x) i → Spells ws at (letter k) i
 kind-is e s = rw e at s
 
-nought : {x : ℕ} → x ≤ 0 → x ≡ 0
-nought h = omega arith
+pub none-but-nought : {x : ℕ} → x ≤ 0 → x ≡ 0
+none-but-nought h = omega arith
 
 module _ (ws : List ℕ) (n : ℕ) where
-  abbrev IsDraw : ℕ → Draw → ℕ → Type 0
+  abbrev pub IsDraw : ℕ → Draw → ℕ → Type 0
   IsDraw = Codes ws code.draw (DrawIn n)
 
   ratio-is : {at i : ℕ} → Spells ws at (letter 1) i → All (IsDraw at) (reader.ratio ws i)
@@ -183,12 +197,12 @@ module _ (ws : List ℕ) (n : ℕ) where
       all-then _ _ (most-is ws ranges.top 3 j)
       (λ y h b. all-read (record { spells = s & a .spells & b .spells; good = (a .good, b .good) })))
 
-  draw-is : (at : ℕ) → All (IsDraw at) (reader.draw ws n at)
+  pub draw-is : (at : ℕ) → All (IsDraw at) (reader.draw ws n at)
   unfolding reader.draw DrawIn Kinds
   draw-is at =
       all-then _ _ (word-is ws at)
       (λ kind i s.
-      all-kind _ kind _ _ i (
+      each-kind (All (IsDraw at)) kind _ _ i (
         (λ e. ratio-is (kind-is e s)),
         (
           (λ e. all-read (record { spells = kind-is e s; good = tt })),
@@ -229,33 +243,30 @@ module _ (ws : List ℕ) (n : ℕ) where
 
   -- events
   module _ (deep : ℕ) where
-    abbrev IsEvent : ℕ → Event → ℕ → Type 0
+    abbrev pub IsEvent : ℕ → Event → ℕ → Type 0
     IsEvent = Codes ws code.event (EventIn n deep)
 
-    abbrev codeEs : Events → List ℕ
-    codeEs es = code.count-events es ∷ code.events es
-
     module _ (one : ℕ → Reading Event) (h : (at : ℕ) → All (IsEvent at) (one at)) where
-      events-are : (k at : ℕ) → All (λ es j. Spells ws at (code.events es) j × ((code.count-events es ≡ k) × EventsIn n deep es)) (many none _also_ one k at)
+      pub events-are : (k at : ℕ) → All (λ es j. Spells ws at (code.events es) j × ((code.count-events es ≡ k) × EventsIn n deep es)) (many none _also_ one k at)
       unfolding many code.event
       events-are zero at = all-read (nothing, (refl, limits.no-event))
       events-are (suc k) at =
           all-then _ _ (h at)
           (λ x i a. all-then _ _ (events-are k i) (λ xs j b. all-read (a .spells & b .0, (ap suc (b .1 .0), limits.and-event (a .good) (b .1 .1)))))
 
-      all-events-are : (at : ℕ) → All (Codes ws codeEs (EventsIn n deep) at) (reader.events ws one at)
+      pub all-events-are : (at : ℕ) → All (Codes ws conjunction (EventsIn n deep) at) (reader.events ws one at)
       unfolding reader.events
       all-events-are at =
           all-then _ _ (word-is ws at)
-          (λ k i s. all-then′ _ (events-are k i) (λ es j b. record { spells = kind-is (sym (b .1 .0)) s & b .0; good = b .1 .1 }))
+          (λ k i s. all-so _ (events-are k i) (λ es j b. record { spells = kind-is (sym (b .1 .0)) s & b .0; good = b .1 .1 }))
 
-  event-is : (deep at : ℕ) → All (IsEvent deep at) (reader.event ws n deep at)
+  pub event-is : (deep at : ℕ) → All (IsEvent deep at) (reader.event ws n deep at)
   unfolding reader.event reader.set reader.comparison reader.datum code.event Kinds
   event-is zero at = all-then _ _ (word-is ws at) (λ k i s. all-bad)
   event-is (suc deep) at =
       all-then _ _ (word-is ws at)
       (λ kind i s.
-      all-kind _ kind _ _ i (
+      each-kind (All (IsEvent (suc deep) at)) kind _ _ i (
         (λ e.
             all-then _ _ (variable-is ws n i)
             (λ v j a.
@@ -291,7 +302,7 @@ module _ (ws : List ℕ) (n : ℕ) where
       all-bad)
 
   -- the parts of statements
-  addend-is : (at : ℕ) → All (Codes ws code.addend (AddendIn n) at) (reader.addend ws n at)
+  pub addend-is : (at : ℕ) → All (Codes ws code.addend (AddendIn n) at) (reader.addend ws n at)
   unfolding reader.addend AddendIn if-read
   addend-is at = all-then _ _ (flag-is ws at) (λ has i s. go has s)
     where
@@ -301,9 +312,9 @@ module _ (ws : List ℕ) (n : ℕ) where
           (λ f j a. all-then _ _ (variable-is ws n j) (λ w h b. all-read (record { spells = s & a .spells & b .spells; good = (a .good, b .good) })))
       go {i} false s =
           all-then _ _ (most-is ws 0 3 i)
-          (λ f j a. all-then _ _ (most-is ws 0 3 j) (λ w h b. all-read (record { spells = s & kind-is (nought (a .good)) (a .spells) & kind-is (nought (b .good)) (b .spells); good = tt })))
+          (λ f j a. all-then _ _ (most-is ws 0 3 j) (λ w h b. all-read (record { spells = s & kind-is (none-but-nought (a .good)) (a .spells) & kind-is (none-but-nought (b .good)) (b .spells); good = tt })))
 
-  unroll-is : (at : ℕ) → All (Codes ws code.unroll UnrollIn at) (reader.unroll ws at)
+  pub unroll-is : (at : ℕ) → All (Codes ws code.unroll UnrollIn at) (reader.unroll ws at)
   unfolding reader.unroll UnrollIn if-read
   unroll-is at = all-then _ _ (flag-is ws at) (λ has i s. all-then _ _ (most-is ws 10000 4 i) (λ u j a. go has s a))
     where
@@ -311,7 +322,10 @@ module _ (ws : List ℕ) (n : ℕ) where
       go true s a = all-read (record { spells = s & a .spells; good = a .good })
       go {i} {u} {j} false s a = all-if (eqb u 0) _ _ (λ e. all-read (record { spells = s & kind-is (eqb-true u 0 e) (a .spells); good = tt })) (λ e. all-bad)
 
-  sample-is : {deep loops at i : ℕ} → Spells ws at (letter 1) i → All (Codes ws code.statement (StatementIn n (suc deep) loops) at) (reader.sample ws n i)
+  abbrev pub IsStatement : ℕ → ℕ → ℕ → Statement → ℕ → Type 0
+  IsStatement deep loops = Codes ws code.statement (StatementIn n deep loops)
+
+  sample-is : {deep loops at i : ℕ} → Spells ws at (letter 1) i → All (IsStatement (suc deep) loops at) (reader.sample ws n i)
   unfolding reader.sample code.statement
   sample-is {deep} {loops} {at} {i} s =
       all-then _ _ (variable-is ws n i)
@@ -321,7 +335,7 @@ module _ (ws : List ℕ) (n : ℕ) where
       all-then _ _ (draw-is h)
       (λ d m c. all-read (record { spells = s & a .spells & b & c .spells; good = limits.sample (a .good) (c .good) }))))
 
-  assign-is : {deep loops at i : ℕ} → Spells ws at (letter 2) i → All (Codes ws code.statement (StatementIn n (suc deep) loops) at) (reader.assign ws n i)
+  assign-is : {deep loops at i : ℕ} → Spells ws at (letter 2) i → All (IsStatement (suc deep) loops at) (reader.assign ws n i)
   unfolding reader.assign code.statement
   assign-is {deep} {loops} {at} {i} s =
       all-then _ _ (variable-is ws n i)
@@ -333,39 +347,36 @@ module _ (ws : List ℕ) (n : ℕ) where
       all-then _ _ (most-is ws ranges.top 3 m)
       (λ k o d. all-read (record { spells = s & a .spells & b & c .spells & d .spells; good = limits.assign (a .good) (c .good) (d .good) })))))
 
-  decrement-is : {deep loops at i : ℕ} → Spells ws at (letter 3) i → All (Codes ws code.statement (StatementIn n (suc deep) loops) at) (reader.decrement ws n i)
+  decrement-is : {deep loops at i : ℕ} → Spells ws at (letter 3) i → All (IsStatement (suc deep) loops at) (reader.decrement ws n i)
   unfolding reader.decrement code.statement
   decrement-is {deep} {loops} {at} {i} s =
       all-then _ _ (variable-is ws n i)
       (λ v j a. all-then _ _ (most-is ws ranges.top 3 j) (λ k h b. all-read (record { spells = s & a .spells & b .spells; good = limits.decrement (a .good) (b .good) })))
 
-  abbrev codeVs : List ℕ → List ℕ
-  codeVs vs = length vs ∷ vs
-
-  given-is : (at : ℕ) → All (Codes ws codeVs (λ vs. (length vs ≤ 8) × Each (λ v. v < n) vs) at) (reader.given ws n at)
+  pub given-is : (at : ℕ) → All (Codes ws counted (λ vs. (length vs ≤ 8) × Each (λ v. v < n) vs) at) (reader.given ws n at)
   unfolding reader.given
   given-is at =
       all-then _ _ (most-is ws 8 4 at)
       (λ k i a.
-      all-then′ _ (many-are ws (λ v. v < n) (reader.variable ws n) (variable-is ws n) k i)
+      all-so _ (many-are ws (λ v. v < n) (reader.variable ws n) (variable-is ws n) k i)
       (λ vs j b. record { spells = kind-is (sym (b .1 .0)) (a .spells) & b .0; good = (rw (sym (b .1 .0)) at (a .good), b .1 .1) }))
 
   -- statements
-  module _ (deep loops : ℕ) (one : ℕ → Reading Statement) (h : (at : ℕ) → All (Codes ws code.statement (StatementIn n deep loops) at) (one at)) where
-    list-is : (k at : ℕ) → All (λ cs j. Spells ws at (code.list cs) j × ((code.count cs ≡ k) × StatementsIn n deep loops cs)) (many done _then_ one k at)
+  module _ (deep loops : ℕ) (one : ℕ → Reading Statement) (h : (at : ℕ) → All (IsStatement deep loops at) (one at)) where
+    pub list-is : (k at : ℕ) → All (λ cs j. Spells ws at (code.list cs) j × ((code.count cs ≡ k) × StatementsIn n deep loops cs)) (many done _then_ one k at)
     unfolding many code.statement
     list-is zero at = all-read (nothing, (refl, limits.no-statement))
     list-is (suc k) at =
         all-then _ _ (h at)
         (λ x i a. all-then _ _ (list-is k i) (λ xs j b. all-read (a .spells & b .0, (ap suc (b .1 .0), limits.and-statement (a .good) (b .1 .1)))))
 
-    block-is : (at : ℕ) → All (Codes ws code.program (StatementsIn n deep loops) at) (reader.block ws one at)
+    pub block-is : (at : ℕ) → All (Codes ws code.program (StatementsIn n deep loops) at) (reader.block ws one at)
     unfolding reader.block
     block-is at =
         all-then _ _ (word-is ws at)
-        (λ k i s. all-then′ _ (list-is k i) (λ cs j b. record { spells = kind-is (sym (b .1 .0)) s & b .0; good = b .1 .1 }))
+        (λ k i s. all-so _ (list-is k i) (λ cs j b. record { spells = kind-is (sym (b .1 .0)) s & b .0; good = b .1 .1 }))
 
-    branch-is : {at i : ℕ} → Spells ws at (letter 4) i → All (Codes ws code.statement (StatementIn n (suc deep) loops) at) (reader.branch ws n one (suc deep) i)
+    branch-is : {at i : ℕ} → Spells ws at (letter 4) i → All (IsStatement (suc deep) loops at) (reader.branch ws n one (suc deep) i)
     unfolding reader.branch code.statement
     branch-is {at} {i} s =
         all-then _ _ (event-is (suc deep) i)
@@ -375,7 +386,7 @@ module _ (ws : List ℕ) (n : ℕ) where
         all-then _ _ (block-is m)
         (λ f o c. all-read (record { spells = s & a .spells & b .spells & c .spells; good = limits.branch (a .good) (b .good) (c .good) }))))
 
-    while-is : {at i : ℕ} → Spells ws at (letter 5) i → All (Codes ws code.statement (StatementIn n (suc deep) (suc loops)) at) (reader.while ws n one (suc deep) i)
+    while-is : {at i : ℕ} → Spells ws at (letter 5) i → All (IsStatement (suc deep) (suc loops) at) (reader.while ws n one (suc deep) i)
     unfolding reader.while code.statement
     while-is {at} {i} s =
         all-then _ _ (unroll-is i)
@@ -385,7 +396,7 @@ module _ (ws : List ℕ) (n : ℕ) where
         all-then _ _ (block-is m)
         (λ t o c. all-read (record { spells = s & a .spells & b .spells & c .spells; good = limits.while (a .good) (b .good) (c .good) }))))
 
-    normalize-is : {at i : ℕ} → Spells ws at (letter 7) i → All (Codes ws code.statement (StatementIn n (suc deep) loops) at) (reader.normalize ws n one i)
+    normalize-is : {at i : ℕ} → Spells ws at (letter 7) i → All (IsStatement (suc deep) loops at) (reader.normalize ws n one i)
     unfolding reader.normalize code.statement
     normalize-is {at} {i} s =
         all-then _ _ (given-is i)
@@ -393,13 +404,13 @@ module _ (ws : List ℕ) (n : ℕ) where
         all-then _ _ (block-is j)
         (λ b m c. all-read (record { spells = s & a .spells & c .spells; good = limits.normalize (a .good .0) (a .good .1) (c .good) })))
 
-  statement-is : (deep loops at : ℕ) → All (Codes ws code.statement (StatementIn n deep loops) at) (reader.statement ws n deep loops at)
+  pub statement-is : (deep loops at : ℕ) → All (IsStatement deep loops at) (reader.statement ws n deep loops at)
   unfolding reader.statement code.statement Kinds
   statement-is zero loops at = all-then _ _ (word-is ws at) (λ k i s. all-bad)
   statement-is (suc deep) loops at =
       all-then _ _ (word-is ws at)
       (λ kind i s.
-      all-kind _ kind _ _ i (
+      each-kind (All (IsStatement (suc deep) loops at)) kind _ _ i (
         (λ e. sample-is (kind-is e s)),
         (
           (λ e. assign-is (kind-is e s)),
@@ -413,7 +424,7 @@ module _ (ws : List ℕ) (n : ℕ) where
                     (λ z.
                     let ne = eqb-false loops 0 z in
                     let j : suc (loops - 1) ≡ loops = omega arith in
-                    all-then′ _ (while-is deep (loops - 1) (reader.statement ws n deep (loops - 1)) (statement-is deep (loops - 1)) (kind-is e s))
+                    all-so _ (while-is deep (loops - 1) (reader.statement ws n deep (loops - 1)) (statement-is deep (loops - 1)) (kind-is e s))
                     (λ c j′ b. record { spells = b .spells; good = rw j at (b .good) }))),
                 (
                   (λ e. all-read (record { spells = kind-is e s; good = limits.fail })),
@@ -429,13 +440,13 @@ module _ (ws : List ℕ) (n : ℕ) where
       )
       all-bad)
 
-  -- what is read as a program is the code of a tree within the limits, whole
+  -- the words are the whole code of a tree within the limits
   pub record Told (p : Statements) (j : ℕ) : Type 0 where
     pub is : ws ≡ code.program p
     pub within : ProgramIn n p
     pub end : j ≡ length ws
 
-  program-is : All Told (reader.program ws n)
+  pub program-is : All Told (reader.program ws n)
   unfolding reader.program
   program-is =
       all-then _ _ (block-is 16 3 (reader.statement ws n 16 3) (statement-is 16 3) 0)
@@ -446,6 +457,3 @@ module _ (ws : List ℕ) (n : ℕ) where
       let d : drop j ws ≡ [] = drop-of-length-le ws {i = j} (omega arith) in
       all-read (record { is = a .spells .is ∙ rw d (append-nil (code.program p)); within = a .good; end = z }))
       (λ e. all-bad))
-
-  pub sound : {p : Statements} {j : ℕ} → reader.program ws n ≡ Read p j → Told p j
-  sound e = all-at (reader.program ws n) program-is e
