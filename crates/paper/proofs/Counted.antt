@@ -68,7 +68,7 @@ module _ (n : ℕ) (pass : State → Answer Pass) (exit : State → Answer State
   unfolding rules.unrolled trace.unrolled
   unrolled-length zero t = given refl
   unrolled-length (suc k) t = sure-by (pass (t .next)) (λ p q.
-      sure-map (unrolled-length k (record { next = p .next; exit = states.join n (t .exit) (p .exit) })) (λ _ h. ap suc (length-after _ q ∙ h)))
+      sure-map (unrolled-length k _) (λ _ h. ap suc (length-after _ q ∙ h)))
 
   growing-length : (grow : State → State → State) (k i : ℕ) (s : State) → Sure (λ j. j .passes ≡ i + length (trace.growing n pass (once place) grow k s)) (rules.growing n pass exit grow k i s)
   unfolding rules.growing trace.growing

@@ -103,10 +103,9 @@ module _ (n : ℕ) (small : n ≤ 64) (e : Event) (b : Statements) (pass : State
   unfolding rules.unrolled trace.unrolled
   unrolled-names first σ h zero i j t f c le lt r = absurd (omega arith)
   unrolled-names first σ h (suc k) i j t f c le lt r = sure-by (pass (t .next)) (λ p q. either j (suc i)
-      (λ now. sure-any (rules.unrolled n pass exit k (record { next = p .next; exit = states.join n (t .exit) (p .exit) }))
-      (λ _. now-names (t .next) p _ f (c σ ρ h (subst (λ (m : ℕ). Turned e b m σ ρ) (omega arith) r)) q))
+      (λ now. sure-any _ (λ _. now-names (t .next) p _ f (c σ ρ h (subst (λ (m : ℕ). Turned e b m σ ρ) (omega arith) r)) q))
       (λ later. let P = sure-of (pass-fine (t .next) f) q in
-      sure-map (unrolled-names first σ h k (suc i) j (record { next = p .next; exit = states.join n (t .exit) (p .exit) }) (P .next .fit) (covered-next n e b first i (t .next) p P c) (omega arith) (omega arith) r)
+      sure-map (unrolled-names first σ h k (suc i) j _ (P .next .fit) (covered-next n e b first i (t .next) p P c) (omega arith) (omega arith) r)
       (λ _. later-names (t .next) p _ q)))
 
   -- the last pass of a stage that settles
@@ -165,7 +164,7 @@ module _ (n : ℕ) (small : n ≤ 64) (body : State → Answer State) (entered :
   unfolding rules.enumerated trace.enumerated
   enumerated-names rest rest-entered rest-names v s lt f h zero x acc le less = absurd (omega arith)
   enumerated-names rest rest-entered rest-names v s lt f h (suc k) x acc le less = sure-by (rest (states.put s v (ranges.point x))) (λ t q. either (σ v) (suc x)
-      (λ now. sure-any (rules.enumerated n body rest v s k (x + 1) (states.join n acc t)) (λ _. named-left _ (sure-of (rest-names (states.put s v (ranges.point x)) (fit-put n small s v (ranges.point x) lt f)
+      (λ now. sure-any _ (λ _. named-left _ (sure-of (rest-names (states.put s v (ranges.point x)) (fit-put n small s v (ranges.point x) lt f)
       (put-kept n small s v (ranges.point x) σ lt f h (subst (λ (y : ℕ). σ v ∈ ranges.point y) (let same : σ v ≡ x = omega arith in same) (laws.point-holds (σ v))))) q)))
       (λ later. sure-map (enumerated-names rest rest-entered rest-names v s lt f h k (x + 1) (states.join n acc t) (omega arith) (omega arith))
       (λ _ N. named-right (rest-entered (states.put s v (ranges.point x))) (named-after _ q N))))

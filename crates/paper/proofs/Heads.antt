@@ -39,13 +39,13 @@ module _ (n : ℕ) (pass other : State → Answer Pass) (exit : State → Answer
   unrolled-heads : (k : ℕ) (t : Pass) → Head n pass s (t .next) → rules.unrolled n pass exit k t ≡ rules.unrolled n other exit k t
   unfolding rules.unrolled
   unrolled-heads zero t H = refl
-  unrolled-heads (suc k) t H = and-both (agree (t .next) H) (λ p q. unrolled-heads k (record { next = p .next; exit = states.join n (t .exit) (p .exit) }) (next H q))
+  unrolled-heads (suc k) t H = and-both (agree (t .next) H) (λ p q. unrolled-heads k _ (next H q))
 
   -- and the state where the unrolled passes end is one
   unrolled-head : (k : ℕ) (t : Pass) → Head n pass s (t .next) → Sure (λ u. Head n pass s (u .next)) (rules.unrolled n pass exit k t)
   unfolding rules.unrolled
   unrolled-head zero t H = given H
-  unrolled-head (suc k) t H = sure-by (pass (t .next)) (λ p q. unrolled-head k (record { next = p .next; exit = states.join n (t .exit) (p .exit) }) (next H q))
+  unrolled-head (suc k) t H = sure-by (pass (t .next)) (λ p q. unrolled-head k _ (next H q))
 
   -- by joining or by widening
   module _ (grow : State → State → State) (grown : (h : State) (p : Pass) → Head n pass s h → pass h ≡ Gives p → Head n pass s (grow h (p .next))) where

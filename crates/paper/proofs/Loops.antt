@@ -111,9 +111,9 @@ module _ (n : ℕ) (small : n ≤ 64) (e : Event) (b : Statements) (pass : State
   unrolled-still zero zero t f h st = given st
   unrolled-still zero (suc m) t f h st = absurd (omega arith)
   unrolled-still (suc k) zero t f h st = sure-by (pass (t .next)) (λ p q.
-      unrolled-still k zero (record { next = p .next; exit = states.join n (t .exit) (p .exit) }) (sure-of (pass-ok (t .next) f) q .next .fit) (omega arith) (still-next (t .next) p f st q))
+      unrolled-still k zero _ (sure-of (pass-ok (t .next) f) q .next .fit) (omega arith) (still-next (t .next) p f st q))
   unrolled-still (suc k) (suc m) t f h st = sure-by (pass (t .next)) (λ p q.
-      unrolled-still k m (record { next = p .next; exit = states.join n (t .exit) (p .exit) }) (sure-of (pass-ok (t .next) f) q .next .fit) (omega arith) (sure-of st q))
+      unrolled-still k m _ (sure-of (pass-ok (t .next) f) q .next .fit) (omega arith) (sure-of st q))
 
   pub joining-still : (k i : ℕ) (s : State) → Fit n s → Still s → Sure (λ j. (j .settled ≡ true) × (j .passes ≡ i + 1)) (rules.growing n pass exit (states.join n) (suc k) i s)
   unfolding rules.growing
@@ -196,19 +196,24 @@ module _ (n : ℕ) (small : n ≤ 64) (e : Event) (b : Statements) (pass : State
     pub joined : m .joined ≤ 100
     pub widened : m .widened ≤ n + n + 1
 
+  joined-only : (s : State) (j : Settling) → Grown 100 0 s j → j .settled ≡ true → Settles s (record { at = j .at; joined = j .passes; widened = 0 })
+  joined-only s j J t = record { fit = J .fit; dead = J .dead; above = J .above; accepted = J .accepted t; joined = omega (arith, J .few); widened = omega arith }
+
+  then-widened : (s : State) (j w : Settling) → Fit n s → Grown 100 0 s j → Grown (n + n + 1) 0 (j .at) w → w .settled ≡ true → Settles s (record { at = w .at; joined = j .passes; widened = w .passes })
+  then-widened s j w f J W t = record {
+    fit = W .fit;
+    dead = λ d. W .dead (J .dead d);
+    above = within-trans n small s (j .at) (w .at) f (J .fit) (W .fit) (J .above) (W .above);
+    accepted = W .accepted t;
+    joined = omega (arith, J .few);
+    widened = omega (arith, W .few);
+  }
+
   settle-ok : (s : State) → Fit n s → Sure (Settles s) (rules.settle n pass exit s)
   unfolding rules.settle
   settle-ok s f = sure-then (growing-ok join-grows 100 0 s f) (λ j J. sure-elim (j .settled)
-      (λ t. given (record { fit = J .fit; dead = J .dead; above = J .above; accepted = J .accepted t; joined = omega (arith, J .few); widened = omega arith }))
-      (λ _. sure-then (sure-both (growing-ok widen-grows (n + n + 1) 0 (j .at) (J .fit)) (widening-settles (j .at) (J .fit))) (λ w W.
-      given (record {
-        fit = W .0 .fit;
-        dead = λ d. W .0 .dead (J .dead d);
-        above = within-trans n small s (j .at) (w .at) f (J .fit) (W .0 .fit) (J .above) (W .0 .above);
-        accepted = W .0 .accepted (W .1);
-        joined = omega (arith, J .few);
-        widened = omega (arith, W .0 .few);
-      }))))
+      (λ t. given (joined-only s j J t))
+      (λ _. sure-then (sure-both (growing-ok widen-grows (n + n + 1) 0 (j .at) (J .fit)) (widening-settles (j .at) (J .fit))) (λ w W. given (then-widened s j w f J (W .0) (W .1)))))
 
   settle-still : (s : State) → Fit n s → Still s → Sure (λ m. (m .joined ≡ 1) × (m .widened ≡ 0)) (rules.settle n pass exit s)
   unfolding rules.settle
@@ -244,7 +249,7 @@ module _ (n : ℕ) (small : n ≤ 64) (e : Event) (b : Statements) (pass : State
       exit-held = λ j l m. absurd (omega arith);
     })
     unrolled-ok (suc k) i t f x c = sure-then (pass-ok (t .next) f) (λ p P.
-        sure-map (unrolled-ok k (suc i) (record { next = p .next; exit = states.join n (t .exit) (p .exit) }) (P .next .fit) (fit-join n small (t .exit) (p .exit) x (P .exit .fit)) (covered-next n e b first i (t .next) p P c)) (λ u U. record {
+        sure-map (unrolled-ok k (suc i) _ (P .next .fit) (fit-join n small (t .exit) (p .exit) x (P .exit .fit)) (covered-next n e b first i (t .next) p P c)) (λ u U. record {
           next-fit = U .next-fit;
           exit-fit = U .exit-fit;
           next-dead = λ d. U .next-dead (P .next .dead d);

@@ -50,34 +50,34 @@ module _ (n : ℕ) (small : n ≤ 64) (e : Event) (b : Statements) (event : Stat
 
 module _ (g : Setting) (small : g .n ≤ 64) where
   -- the old value, or 0
-  old-held : (add : Bool) (s : State) (v : ℕ) (σ : Store) → v < g .n → Holds (g .n) s σ → cond add (σ v) 0 ∈ cond add (states.get s v) (ranges.point 0)
+  old-held : (add : Bool) (s : State) (v : ℕ) (σ : Store) → v < g .n → Holds (g .n) s σ → cond add (σ v) 0 ∈ rules.old s v add
   old-held true s v σ lt h = h .each v lt
   old-held false s v σ lt h = refl
 
+  -- what setting a variable needs
+  set-ok : (v : ℕ) (r : Range) (s : State) (R : Store → Store → Type 0) → v < g .n → Fit (g .n) s → ((σ τ : Store) → Holds (g .n) s σ → R σ τ → Holds (g .n) (states.put s v r) τ) → Post (g .n) R s (states.put s v r)
+  set-ok v r s R lt f held = record { fit = fit-put (g .n) small s v r lt f; dead = put-dead s v r; held = held }
+
   sampled-held : (v : ℕ) (add : Bool) (d : Draw) (s : State) (σ τ : Store) → v < g .n → Fit (g .n) s → Holds (g .n) s σ → Run (Sample v add d) σ τ →
-      Holds (g .n) (states.put s v (ranges.sum (cond add (states.get s v) (ranges.point 0)) (rules.drawn d))) τ
+      Holds (g .n) (states.put s v (ranges.sum (rules.old s v add) (rules.drawn d))) τ
   sampled-held v add d s σ τ lt f h (sampled x t) =
-      put-stored (g .n) small s v (ranges.sum (cond add (states.get s v) (ranges.point 0)) (rules.drawn d)) σ (cond add (σ v) 0 + x) lt f h
-      (laws.sum-holds (cond add (states.get s v) (ranges.point 0)) (rules.drawn d) (cond add (σ v) 0) x (old-held add s v σ lt h) (draws d x .0 t))
+      put-stored (g .n) small s v (ranges.sum (rules.old s v add) (rules.drawn d)) σ (cond add (σ v) 0 + x) lt f h
+      (laws.sum-holds (rules.old s v add) (rules.drawn d) (cond add (σ v) 0) x (old-held add s v σ lt h) (draws d x .0 t))
 
   scaled-held : (x : Addend) (s : State) (σ : Store) → AddendBelow (g .n) x → Holds (g .n) s σ → laws.holds-bounded (rules.scaled s x) (worth σ x)
   scaled-held Nought s σ lt h = refl
   scaled-held (Times f w) s σ lt h = rw (mul-comm f (σ w)) (laws.times-holds (states.get s w) f (σ w) (h .each w lt))
 
   assigned-held : (v : ℕ) (add : Bool) (x : Addend) (k : ℕ) (r : Range) (s : State) (σ τ : Store) → v < g .n → Fit (g .n) s → Holds (g .n) s σ → worth σ x ∈ r → Run (Assign v add x k) σ τ →
-      Holds (g .n) (states.put s v (ranges.sum (ranges.sum (cond add (states.get s v) (ranges.point 0)) r) (ranges.point k))) τ
+      Holds (g .n) (states.put s v (ranges.sum (ranges.sum (rules.old s v add) r) (ranges.point k))) τ
   assigned-held v add x k r s σ τ lt f h i assigned =
-      put-stored (g .n) small s v (ranges.sum (ranges.sum (cond add (states.get s v) (ranges.point 0)) r) (ranges.point k)) σ (cond add (σ v) 0 + worth σ x + k) lt f h
-      (laws.sum-holds (ranges.sum (cond add (states.get s v) (ranges.point 0)) r) (ranges.point k) (cond add (σ v) 0 + worth σ x) k
-      (laws.sum-holds (cond add (states.get s v) (ranges.point 0)) r (cond add (σ v) 0) (worth σ x) (old-held add s v σ lt h) i) (laws.point-holds k))
+      put-stored (g .n) small s v (ranges.sum (ranges.sum (rules.old s v add) r) (ranges.point k)) σ (cond add (σ v) 0 + worth σ x + k) lt f h
+      (laws.sum-holds (ranges.sum (rules.old s v add) r) (ranges.point k) (cond add (σ v) 0 + worth σ x) k
+      (laws.sum-holds (rules.old s v add) r (cond add (σ v) 0) (worth σ x) (old-held add s v σ lt h) i) (laws.point-holds k))
 
   assigned-ok : (at : ℕ) (s : State) (v : ℕ) (add : Bool) (x : Addend) (k : ℕ) (q : Bounded) → v < g .n → Fit (g .n) s →
       ((σ : Store) → Holds (g .n) s σ → laws.holds-bounded q (worth σ x)) → Sure (Post (g .n) (Run (Assign v add x k)) s) (rules.assigned at s v add k q)
-  assigned-ok at s v add x k (Is r) lt f h = given (record {
-    fit = fit-put (g .n) small s v (ranges.sum (ranges.sum (cond add (states.get s v) (ranges.point 0)) r) (ranges.point k)) lt f;
-    dead = put-dead s v (ranges.sum (ranges.sum (cond add (states.get s v) (ranges.point 0)) r) (ranges.point k));
-    held = λ σ τ i d. assigned-held v add x k r s σ τ lt f i (h σ i) d;
-  })
+  assigned-ok at s v add x k (Is r) lt f h = given (set-ok v (ranges.sum (ranges.sum (rules.old s v add) r) (ranges.point k)) s _ lt f (λ σ τ i d. assigned-held v add x k r s σ τ lt f i (h σ i) d))
   assigned-ok at s v add x k Over lt f h = sure-if (s .live) (λ _. refused) (λ d. given (record { fit = f; dead = λ x. x; held = λ σ τ i _. absurd (holds-dead d i) }))
 
   lessened-held : (v k : ℕ) (s : State) (σ τ : Store) → v < g .n → Fit (g .n) s → Holds (g .n) s σ → Run (Decrement v k) σ τ → Holds (g .n) (states.put s v (ranges.less (states.get s v) k)) τ
@@ -108,33 +108,25 @@ module _ (g : Setting) (small : g .n ≤ 64) where
     unfolding rules.statement rules.list
 
     pub statement-ok : (c : Statement) (at : ℕ) (s : State) → StatementBelow (g .n) c → Fit (g .n) s → Sure (Post (g .n) (Run c) s) (rules.statement g at c s)
-    statement-ok (Sample v add d) at s lt f = given (record {
-      fit = fit-put (g .n) small s v (ranges.sum (cond add (states.get s v) (ranges.point 0)) (rules.drawn d)) (lt .0) f;
-      dead = put-dead s v (ranges.sum (cond add (states.get s v) (ranges.point 0)) (rules.drawn d));
-      held = λ σ τ h r. sampled-held v add d s σ τ (lt .0) f h r;
-    })
+    statement-ok (Sample v add d) at s lt f = given (set-ok v (ranges.sum (rules.old s v add) (rules.drawn d)) s _ (lt .0) f (λ σ τ h r. sampled-held v add d s σ τ (lt .0) f h r))
     statement-ok (Assign v add x k) at s lt f = assigned-ok at s v add x k (rules.scaled s x) (lt .0) f (λ σ h. scaled-held x s σ (lt .1) h)
-    statement-ok (Decrement v k) at s lt f = given (record {
-      fit = fit-put (g .n) small s v (ranges.less (states.get s v) k) lt f;
-      dead = put-dead s v (ranges.less (states.get s v) k);
-      held = λ σ τ h r. lessened-held v k s σ τ lt f h r;
-    })
+    statement-ok (Decrement v k) at s lt f = given (set-ok v (ranges.less (states.get s v) k) s _ lt f (λ σ τ h r. lessened-held v k s σ τ lt f h r))
     statement-ok (IfThenElse e t o) at s lt f =
         sure-then (event-ok g small e (at + 1) s (lt .0) f) (λ u U.
-        sure-then (list-ok t (at + 1 + length (code.event e) + 1) (u .yes) (lt .1) (U .yes .fit)) (λ a A.
-        sure-then (list-ok o (at + 1 + length (code.event e) + 1 + length (code.list t) + 1) (u .no) (lt .2) (U .no .fit)) (λ b B.
+        sure-then (list-ok t (code.then-at at e + 1) (u .yes) (lt .1) (U .yes .fit)) (λ a A.
+        sure-then (list-ok o (code.else-at at e t + 1) (u .no) (lt .2) (U .no .fit)) (λ b B.
         given (record {
           fit = fit-join (g .n) small a b (A .fit) (B .fit);
           dead = λ d. join-dead (g .n) a b (A .dead (U .yes .dead d)) (B .dead (U .no .dead d));
           held = λ σ τ h r. branch-held e t o s u a b σ τ U A B h r;
         }))))
     statement-ok (While m e b) at s lt f =
-        sure-then (looping-ok (g .n) small e b (λ h. rules.event g (at + 3) e h) (λ h. rules.list g (at + 3 + length (code.event e) + 1) b h)
-        (λ s f. event-ok g small e (at + 3) s (lt .0) f) (λ s f. list-ok b (at + 3 + length (code.event e) + 1) s (lt .1) f) (rules.turns g m) s f) (λ l L.
+        sure-then (looping-ok (g .n) small e b (λ h. rules.event g (at + 3) e h) (λ h. rules.list g (code.body-at at e + 1) b h)
+        (λ s f. event-ok g small e (at + 3) s (lt .0) f) (λ s f. list-ok b (code.body-at at e + 1) s (lt .1) f) (rules.turns g m) s f) (λ l L.
         given (record { fit = L .holds .exits-fit; dead = L .dead; held = λ σ τ h r. left-held m e b s (l .exits) σ τ (L .holds .covers) h r }))
     statement-ok Fail at s lt f = given (record { fit = fit-empty (g .n); dead = λ _. refl; held = λ σ τ h r. absurd (no-run σ τ r) })
     statement-ok (Normalize vs b) at s lt f =
-        sure-map (normalized-ok (g .n) small (λ h. rules.list g (at + 2 + length vs + 1) b h) (Runs b) (λ s f. list-ok b (at + 2 + length vs + 1) s (lt .1) f) vs (at + 2) s (lt .0) f) (λ t T.
+        sure-map (normalized-ok (g .n) small (λ h. rules.list g (code.normalized-at at vs + 1) b h) (Runs b) (λ s f. list-ok b (code.normalized-at at vs + 1) s (lt .1) f) vs (at + 2) s (lt .0) f) (λ t T.
         record { fit = T .fit; dead = T .dead; held = λ σ τ h r. T .held σ τ h (body-run σ τ r) })
 
     pub list-ok : (p : Statements) (at : ℕ) (s : State) → StatementsBelow (g .n) p → Fit (g .n) s → Sure (Post (g .n) (Runs p) s) (rules.list g at p s)
