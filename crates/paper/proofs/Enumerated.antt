@@ -10,7 +10,7 @@ use Rattle.ranges.specs.declared.End.the-variants.{At, Open}
 use Rattle.ranges.specs.declared.Range.{Range}
 use Rattle.ranges.specs.declared.Range.the-variants.{Empty, Span}
 use Rattle.ranges.specs.Ranges as ranges
-use Rattle.ranges.proofs.Laws as L
+use Rattle.ranges.proofs.Laws as laws
 use Rattle.states.specs.declared.State.{State}
 use Rattle.states.specs.States as states
 use Rattle.states.specs.States.{Fit}
@@ -45,11 +45,11 @@ module _ (n : ℕ) (small : n ≤ 64) (body : State → Answer State) (Does : St
       here : (b : Bool) (σ τ : Store) → eqb (σ v) x ≡ b → Holds n s σ → Does σ τ → (t : State) → Post n Does (states.put s v (ranges.point x)) t →
           {u : State} → (Holds n (states.join n acc t) τ → Holds n u τ) → ((σ v ≡ x → ⊥) → Holds n u τ) → Holds n u τ
       here true σ τ q h d t T k l = k (join-right n small acc t τ a (T .fit) (T .held σ τ
-          (put-kept n small s v (ranges.point x) σ lt f h (subst (λ (y : ℕ). σ v ∈ ranges.point y) (eqb-true (σ v) x q) (L.point-holds (σ v)))) d))
+          (put-kept n small s v (ranges.point x) σ lt f h (subst (λ (y : ℕ). σ v ∈ ranges.point y) (eqb-true (σ v) x q) (laws.point-holds (σ v)))) d))
       here false σ τ q h d t T k l = l (eqb-false (σ v) x q)
 
   values-ok : (rest : State → Answer State) → ((s : State) → Fit n s → Sure (Post n Does s) (rest s)) →
-      (at v : ℕ) (s : State) → v < n → Fit n s → s .live ≡ true → (r : Range) → ((σ : Store) → Holds n s σ → L.In r (σ v)) → Sure (Post n Does s) (rules.values n body rest at v s r)
+      (at v : ℕ) (s : State) → v < n → Fit n s → s .live ≡ true → (r : Range) → ((σ : Store) → Holds n s σ → laws.In r (σ v)) → Sure (Post n Does s) (rules.values n body rest at v s r)
   values-ok rest rest-ok at v s lt f l Empty h = refused
   values-ok rest rest-ok at v s lt f l (Span a Open) h = refused
   values-ok rest rest-ok at v s lt f l (Span a (At b)) h = sure-elim (ltb 4096 (b - a + 1)) (λ _. refused) (λ _.
@@ -63,5 +63,5 @@ module _ (n : ℕ) (small : n ≤ 64) (body : State → Answer State) (Does : St
   unfolding rules.normalized
   normalized-ok [] at s lt f = body-ok s f
   normalized-ok (v ∷ vs) at s lt f = sure-elim (s .live)
-      (λ l. values-ok (rules.normalized n body (at + 1) vs) (λ t. normalized-ok vs (at + 1) t (lt .1)) at v s (lt .0) f l (states.get s v) (λ σ h. L.in-of (states.get s v) (σ v) (h .each v (lt .0))))
+      (λ l. values-ok (rules.normalized n body (at + 1) vs) (λ t. normalized-ok vs (at + 1) t (lt .1)) at v s (lt .0) f l (states.get s v) (λ σ h. laws.in-of (states.get s v) (σ v) (h .each v (lt .0))))
       (λ _. refused)

@@ -1,21 +1,20 @@
--- What the operations on states hold.
+-- Which stores a state holds once a variable is set, or another state is joined.
 use mathlib.Core.Path.{_≡_, refl, sym, _∙_, subst}
 use mathlib.Core.Bool.{Bool, true, false, false≢true}
 use mathlib.Core.List.{List}
 use Prim.Native.Nat.{ℕ, _≤_, _<_}
 use native.Mathlib.Omega.{arith}
-use lib.ListN.{length}
 use borrow.Author.Tests.{eq-eqb, ne-eqb}
 use Rattle.ranges.specs.declared.Range.{Range}
 use Rattle.ranges.specs.declared.Range.the-variants.{Empty, Span}
-use Rattle.ranges.specs.Ranges as ranges
-use Rattle.ranges.proofs.Laws as L
+use Rattle.ranges.proofs.Laws as laws
 use Rattle.states.specs.declared.State.{State}
 use Rattle.states.specs.declared.Cell.{Cell}
 use Rattle.states.specs.States as states
-use Rattle.states.proofs.Cells.{cell-at, at, each-at, every-at, set-at}
 use Rattle.states.specs.States.{Fit}
-use Rattle.states.proofs.Fits.{state}
+use Rattle.states.proofs.Cells.{at, set-at}
+use Rattle.states.proofs.Fits.{state, fit-join}
+use Rattle.states.proofs.Order.{within-says, join-above-left, join-above-right}
 use Rattle.paper.specs.Runs.{Store, stored, _∈_, Holds}
 
 -- an empty state holds nothing
@@ -50,41 +49,14 @@ module _ (n : ℕ) (small : n ≤ 64) where
   pub put-kept : (s : State) (v : ℕ) (r : Range) (σ : Store) → v < n → Fit n s → Holds n s σ → σ v ∈ r → Holds n (states.put s v r) σ
   put-kept s v r σ lt f h new = put-to s v r σ σ lt f h new (λ w _. refl)
 
-  each-held : (g : Cell → Cell → Cell) (cs ds : List Cell) (σ : Store) → length cs ≡ 64 → length ds ≡ 64 →
-      ((v : ℕ) → v < n → σ v ∈ g (cell-at cs v) (cell-at ds v) .range) → Holds n (states.live (states.each g n cs ds)) σ
-  each-held g cs ds σ a b h = record { live = refl; each = λ v k. subst (λ (q : Cell). σ v ∈ q .range) (sym (each-at g n v cs ds k (omega arith) (omega arith))) (h v k) }
+  -- what lies within holds no more
+  pub within-held : (s t : State) (σ : Store) → Fit n s → Fit n t → states.within n s t ≡ true → Holds n s σ → Holds n t σ
+  within-held s t σ f g w h =
+      let inside = within-says n small s t f g .0 w (h .live) in
+      record { live = inside .0; each = λ v k. laws.within-holds (states.get s v) (states.get t v) (σ v) (inside .1 v k) (h .each v k) }
 
   pub join-left : (s t : State) (σ : Store) → Fit n s → Fit n t → Holds n s σ → Holds n (states.join n s t) σ
-  join-left s t σ f g h = go (s .live) (t .live) (s .cells) (t .cells) (f .long) (g .long) h
-    where
-      go : (b c : Bool) (cs ds : List Cell) → length cs ≡ 64 → length ds ≡ 64 → Holds n (state b cs) σ → Holds n (states.join n (state b cs) (state c ds)) σ
-      go false c cs ds f g h = absurd (false≢true (h .live))
-      go true false cs ds f g h = h
-      go true true cs ds f g h = each-held states.join-cells cs ds σ f g (λ v k. L.join-holds-left (at cs v) (at ds v) (σ v) (h .each v k))
+  join-left s t σ f g = within-held s (states.join n s t) σ f (fit-join n small s t f g) (join-above-left n small s t f g)
 
   pub join-right : (s t : State) (σ : Store) → Fit n s → Fit n t → Holds n t σ → Holds n (states.join n s t) σ
-  join-right s t σ f g h = go (s .live) (t .live) (s .cells) (t .cells) (f .long) (g .long) h
-    where
-      go : (b c : Bool) (cs ds : List Cell) → length cs ≡ 64 → length ds ≡ 64 → Holds n (state c ds) σ → Holds n (states.join n (state b cs) (state c ds)) σ
-      go false c cs ds f g h = h
-      go true false cs ds f g h = absurd (false≢true (h .live))
-      go true true cs ds f g h = each-held states.join-cells cs ds σ f g (λ v k. L.join-holds-right (at cs v) (at ds v) (σ v) (h .each v k))
-
-  pub widen-held : (s t : State) (σ : Store) → Fit n s → Fit n t → Holds n s σ → Holds n (states.widen n s t) σ
-  widen-held s t σ f g h = go (s .live) (t .live) (s .cells) (t .cells) (f .long) (g .long) h
-    where
-      go : (b c : Bool) (cs ds : List Cell) → length cs ≡ 64 → length ds ≡ 64 → Holds n (state b cs) σ → Holds n (states.widen n (state b cs) (state c ds)) σ
-      go false c cs ds f g h = absurd (false≢true (h .live))
-      go true false cs ds f g h = h
-      go true true cs ds f g h = each-held states.widen-cells cs ds σ f g (λ v k. L.widen-holds (at cs v) (at ds v) (σ v) (h .each v k))
-
-  pub within-held : (s t : State) (σ : Store) → Fit n s → Fit n t → states.within n s t ≡ true → Holds n s σ → Holds n t σ
-  within-held s t σ f g w h = go (s .live) (t .live) (s .cells) (t .cells) (f .long) (g .long) w h
-    where
-      go : (b c : Bool) (cs ds : List Cell) → length cs ≡ 64 → length ds ≡ 64 → states.within n (state b cs) (state c ds) ≡ true → Holds n (state b cs) σ → Holds n (state c ds) σ
-      go false c cs ds f g w h = absurd (false≢true (h .live))
-      go true false cs ds f g w h = absurd (false≢true w)
-      go true true cs ds f g w h = record {
-        live = refl;
-        each = λ v k. L.within-holds (at cs v) (at ds v) (σ v) (every-at states.within-cells n v cs ds w k (omega arith) (omega arith)) (h .each v k);
-      }
+  join-right s t σ f g = within-held t (states.join n s t) σ g (fit-join n small s t f g) (join-above-right n small s t f g)

@@ -114,6 +114,10 @@ module _ (ws : List ℕ) where
   most-is : (limit k at : ℕ) → All (Codes ws letter (λ x. x ≤ limit) at) (reader.most ws limit k at)
   most-is limit k at = unless-is (λ x. x ≤ limit) (λ x. leb x limit) k at (λ x e. leb-true _ _ e)
 
+  -- a word that is read with a limit is within it
+  pub most-at-most : (limit k at : ℕ) {x i : ℕ} → reader.most ws limit k at ≡ Read x i → x ≤ limit
+  most-at-most limit k at e = all-at (reader.most ws limit k at) (most-is limit k at) e .good
+
   variable-is : (n at : ℕ) → All (Codes ws letter (λ x. x < n) at) (reader.variable ws n at)
   variable-is n at = unless-is (λ x. x < n) (λ x. ltb x n) 5 at (λ x e. ltb-true _ _ e)
 

@@ -2,14 +2,14 @@
 use mathlib.Core.Path.{refl}
 use mathlib.Core.Bool.{Bool, true, false, cond}
 use mathlib.Core.List.{List}
-use Prim.Native.Nat.{ℕ, suc, _+_, _-_, _≤_, _<_}
+use Prim.Native.Nat.{ℕ, _+_, _-_, _≤_, _<_}
 use native.Mathlib.Nat.{mul-comm}
 use lib.ListN.{length}
 use Rattle.ranges.specs.declared.Range.{Range}
 use Rattle.ranges.specs.Ranges as ranges
 use Rattle.ranges.specs.declared.Bounded.{Bounded}
 use Rattle.ranges.specs.declared.Bounded.the-variants.{Is, Over}
-use Rattle.ranges.proofs.Laws as L
+use Rattle.ranges.proofs.Laws as laws
 use Rattle.states.specs.declared.State.{State}
 use Rattle.states.specs.States as states
 use Rattle.states.specs.States.{Fit}
@@ -18,37 +18,33 @@ use Rattle.paper.specs.Tree.{Draw, Event, Addend, Nought, Times, Unroll}
 use Rattle.paper.specs.Tree.{Statement, Sample, Assign, Decrement, IfThenElse, While, Fail, Normalize, Statements, done, _then_}
 use Rattle.paper.specs.Code as code
 use Rattle.paper.specs.Rules as rules
-use Rattle.states.specs.Answers.{Answer, Gives}
-use Rattle.paper.specs.Rules.{Setting, Sides, Looped}
-use Rattle.paper.specs.Runs.{Store, worth, _∈_, True, False, Run, sampled, assigned, decremented, went-then, went-else, left, normalized, Runs, ended, went-on, Turned, at-head, once-more, Holds}
+use Rattle.states.specs.Answers.{Answer}
+use Rattle.paper.specs.Rules.{Setting, Sides}
+use Rattle.paper.specs.Runs.{Store, worth, _∈_, False, Run, sampled, assigned, decremented, went-then, went-else, left, normalized, Runs, ended, went-on, Turned, Holds}
 use Rattle.paper.proofs.Below.{AddendBelow, StatementBelow, StatementsBelow}
-use Rattle.paper.specs.Promises.{LoopHolds}
 use Rattle.paper.proofs.Sure.{Sure, given, refused, sure-then, sure-if, sure-map}
 use Rattle.paper.proofs.Held.{holds-dead, put-stored, join-left, join-right}
-use Rattle.paper.proofs.Splits.{Split, event-ok}
-use Rattle.paper.proofs.Loops.{Post, Passed, loop-ok}
+use Rattle.paper.proofs.Splits.{Kept, Split, event-ok}
+use Rattle.paper.proofs.Loops.{Post, Passed, Looping, loop-ok}
 use Rattle.paper.proofs.Enumerated.{normalized-ok}
+use Rattle.paper.proofs.Draws.{draws}
 
 -- ---- loops
-
-no-turn : {e : Event} {b : Statements} {n : ℕ} (s : State) (σ τ : Store) → Turned e b 0 σ τ → Holds n s σ → Holds n s τ
-no-turn s σ τ at-head h = h
-
-last-turn : {e : Event} {b : Statements} (k : ℕ) (σ τ : Store) → Turned e b (suc k) σ τ → (ρ : Store) × Turned e b k σ ρ × (True e ρ × Runs b ρ τ)
-last-turn k σ τ (once-more {ρ = ρ} r t d) = (ρ, r, (t, d))
 
 module _ (n : ℕ) (small : n ≤ 64) (e : Event) (b : Statements) (event : State → Answer Sides) (body : State → Answer State)
     (event-fine : (s : State) → Fit n s → Sure (Split n e s) (event s))
     (body-fine : (s : State) → Fit n s → Sure (Post n (Runs b) s) (body s)) where
-  pub pass-ok : (s : State) → Fit n s → Sure (Passed n (λ σ τ. True e σ × Runs b σ τ) (False e) s) (rules.pass-of event body s)
+  pub pass-ok : (s : State) → Fit n s → Sure (Passed n e b s) (rules.pass-of event body s)
   pass-ok s f = sure-then (event-fine s f) (λ t T. sure-then (body-fine (t .yes) (T .yes .fit)) (λ a A. given (record {
     next = record { fit = A .fit; dead = λ d. A .dead (T .yes .dead d); held = λ σ τ h r. A .held σ τ (T .yes .held σ h (r .0)) (r .1) };
     exit = T .no;
   })))
 
-  pub looping-ok : (u : ℕ) (s : State) → Fit n s → Sure (LoopHolds n (Turned e b) (False e) u s) (rules.looping n event body u s)
-  looping-ok u s f = loop-ok n small (rules.pass-of event body) (rules.exit-of event) (λ σ τ. True e σ × Runs b σ τ) (False e)
-      pass-ok (λ s f. sure-then (event-fine s f) (λ t T. given (T .no))) (Turned e b) no-turn last-turn s u f
+  pub exit-ok : (s : State) → Fit n s → Sure (Kept n (False e) s) (rules.exit-of event s)
+  exit-ok s f = sure-then (event-fine s f) (λ t T. given (T .no))
+
+  pub looping-ok : (u : ℕ) (s : State) → Fit n s → Sure (Looping n small e b (rules.pass-of event body) (rules.exit-of event) pass-ok exit-ok s u) (rules.looping n event body u s)
+  looping-ok u s f = loop-ok n small e b (rules.pass-of event body) (rules.exit-of event) pass-ok exit-ok s u f
 
 -- ---- statements
 
@@ -60,23 +56,23 @@ module _ (g : Setting) (small : g .n ≤ 64) where
 
   sampled-held : (v : ℕ) (add : Bool) (d : Draw) (s : State) (σ τ : Store) → v < g .n → Fit (g .n) s → Holds (g .n) s σ → Run (Sample v add d) σ τ →
       Holds (g .n) (states.put s v (ranges.sum (cond add (states.get s v) (ranges.point 0)) (rules.drawn d))) τ
-  sampled-held v add d s σ τ lt f h (sampled x i) =
+  sampled-held v add d s σ τ lt f h (sampled x t) =
       put-stored (g .n) small s v (ranges.sum (cond add (states.get s v) (ranges.point 0)) (rules.drawn d)) σ (cond add (σ v) 0 + x) lt f h
-      (L.sum-holds (cond add (states.get s v) (ranges.point 0)) (rules.drawn d) (cond add (σ v) 0) x (old-held add s v σ lt h) i)
+      (laws.sum-holds (cond add (states.get s v) (ranges.point 0)) (rules.drawn d) (cond add (σ v) 0) x (old-held add s v σ lt h) (draws d x .0 t))
 
-  scaled-held : (x : Addend) (s : State) (σ : Store) → AddendBelow (g .n) x → Holds (g .n) s σ → L.holds-bounded (rules.scaled s x) (worth σ x)
+  scaled-held : (x : Addend) (s : State) (σ : Store) → AddendBelow (g .n) x → Holds (g .n) s σ → laws.holds-bounded (rules.scaled s x) (worth σ x)
   scaled-held Nought s σ lt h = refl
-  scaled-held (Times f w) s σ lt h = rw (mul-comm f (σ w)) (L.times-holds (states.get s w) f (σ w) (h .each w lt))
+  scaled-held (Times f w) s σ lt h = rw (mul-comm f (σ w)) (laws.times-holds (states.get s w) f (σ w) (h .each w lt))
 
   assigned-held : (v : ℕ) (add : Bool) (x : Addend) (k : ℕ) (r : Range) (s : State) (σ τ : Store) → v < g .n → Fit (g .n) s → Holds (g .n) s σ → worth σ x ∈ r → Run (Assign v add x k) σ τ →
       Holds (g .n) (states.put s v (ranges.sum (ranges.sum (cond add (states.get s v) (ranges.point 0)) r) (ranges.point k))) τ
   assigned-held v add x k r s σ τ lt f h i assigned =
       put-stored (g .n) small s v (ranges.sum (ranges.sum (cond add (states.get s v) (ranges.point 0)) r) (ranges.point k)) σ (cond add (σ v) 0 + worth σ x + k) lt f h
-      (L.sum-holds (ranges.sum (cond add (states.get s v) (ranges.point 0)) r) (ranges.point k) (cond add (σ v) 0 + worth σ x) k
-      (L.sum-holds (cond add (states.get s v) (ranges.point 0)) r (cond add (σ v) 0) (worth σ x) (old-held add s v σ lt h) i) (L.point-holds k))
+      (laws.sum-holds (ranges.sum (cond add (states.get s v) (ranges.point 0)) r) (ranges.point k) (cond add (σ v) 0 + worth σ x) k
+      (laws.sum-holds (cond add (states.get s v) (ranges.point 0)) r (cond add (σ v) 0) (worth σ x) (old-held add s v σ lt h) i) (laws.point-holds k))
 
   assigned-ok : (at : ℕ) (s : State) (v : ℕ) (add : Bool) (x : Addend) (k : ℕ) (q : Bounded) → v < g .n → Fit (g .n) s →
-      ((σ : Store) → Holds (g .n) s σ → L.holds-bounded q (worth σ x)) → Sure (Post (g .n) (Run (Assign v add x k)) s) (rules.assigned at s v add k q)
+      ((σ : Store) → Holds (g .n) s σ → laws.holds-bounded q (worth σ x)) → Sure (Post (g .n) (Run (Assign v add x k)) s) (rules.assigned at s v add k q)
   assigned-ok at s v add x k (Is r) lt f h = given (record {
     fit = fit-put (g .n) small s v (ranges.sum (ranges.sum (cond add (states.get s v) (ranges.point 0)) r) (ranges.point k)) lt f;
     dead = put-dead s v (ranges.sum (ranges.sum (cond add (states.get s v) (ranges.point 0)) r) (ranges.point k));
@@ -85,15 +81,16 @@ module _ (g : Setting) (small : g .n ≤ 64) where
   assigned-ok at s v add x k Over lt f h = sure-if (s .live) (λ _. refused) (λ d. given (record { fit = f; dead = λ x. x; held = λ σ τ i _. absurd (holds-dead d i) }))
 
   lessened-held : (v k : ℕ) (s : State) (σ τ : Store) → v < g .n → Fit (g .n) s → Holds (g .n) s σ → Run (Decrement v k) σ τ → Holds (g .n) (states.put s v (ranges.less (states.get s v) k)) τ
-  lessened-held v k s σ τ lt f h decremented = put-stored (g .n) small s v (ranges.less (states.get s v) k) σ (σ v - k) lt f h (L.less-holds (states.get s v) k (σ v) (h .each v lt))
+  lessened-held v k s σ τ lt f h decremented = put-stored (g .n) small s v (ranges.less (states.get s v) k) σ (σ v - k) lt f h (laws.less-holds (states.get s v) k (σ v) (h .each v lt))
 
   branch-held : (e : Event) (t f : Statements) (s : State) (u : Sides) (a b : State) (σ τ : Store) → Split (g .n) e s u → Post (g .n) (Runs t) (u .yes) a → Post (g .n) (Runs f) (u .no) b →
       Holds (g .n) s σ → Run (IfThenElse e t f) σ τ → Holds (g .n) (states.join (g .n) a b) τ
   branch-held e t f s u a b σ τ U A B h (went-then c d) = join-left (g .n) small a b τ (A .fit) (B .fit) (A .held σ τ (U .yes .held σ h c) d)
   branch-held e t f s u a b σ τ U A B h (went-else c d) = join-right (g .n) small a b τ (A .fit) (B .fit) (B .held σ τ (U .no .held σ h c) d)
 
-  left-held : (m : Unroll) (e : Event) (b : Statements) (u : ℕ) (s : State) (l : Looped) (σ τ : Store) → LoopHolds (g .n) (Turned e b) (False e) u s l → Holds (g .n) s σ → Run (While m e b) σ τ → Holds (g .n) (l .exits) τ
-  left-held m e b u s l σ τ L h (left {k = k} r o) = L .covers k σ τ h r o
+  left-held : (m : Unroll) (e : Event) (b : Statements) (s x : State) (σ τ : Store) → ((k : ℕ) (σ τ : Store) → Holds (g .n) s σ → Turned e b k σ τ → False e τ → Holds (g .n) x τ) →
+      Holds (g .n) s σ → Run (While m e b) σ τ → Holds (g .n) x τ
+  left-held m e b s x σ τ covers h (left {k = k} r o) = covers k σ τ h r o
 
   no-run : (σ τ : Store) → Run Fail σ τ → ⊥
   no-run σ τ = elim [ ]
@@ -134,7 +131,7 @@ module _ (g : Setting) (small : g .n ≤ 64) where
     statement-ok (While m e b) at s lt f =
         sure-then (looping-ok (g .n) small e b (λ h. rules.event g (at + 3) e h) (λ h. rules.list g (at + 3 + length (code.event e) + 1) b h)
         (λ s f. event-ok g small e (at + 3) s (lt .0) f) (λ s f. list-ok b (at + 3 + length (code.event e) + 1) s (lt .1) f) (rules.turns g m) s f) (λ l L.
-        given (record { fit = L .fit; dead = L .dead; held = λ σ τ h r. left-held m e b (rules.turns g m) s l σ τ L h r }))
+        given (record { fit = L .holds .exits-fit; dead = L .dead; held = λ σ τ h r. left-held m e b s (l .exits) σ τ (L .holds .covers) h r }))
     statement-ok Fail at s lt f = given (record { fit = fit-empty (g .n); dead = λ _. refl; held = λ σ τ h r. absurd (no-run σ τ r) })
     statement-ok (Normalize vs b) at s lt f =
         sure-map (normalized-ok (g .n) small (λ h. rules.list g (at + 2 + length vs + 1) b h) (Runs b) (λ s f. list-ok b (at + 2 + length vs + 1) s (lt .1) f) vs (at + 2) s (lt .0) f) (λ t T.

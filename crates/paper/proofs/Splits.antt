@@ -8,7 +8,7 @@ use lib.ListN.{length}
 use Rattle.ranges.specs.Ranges as ranges
 use Rattle.ranges.specs.declared.Bounded.{Bounded}
 use Rattle.ranges.specs.declared.Bounded.the-variants.{Is, Over}
-use Rattle.ranges.proofs.Laws as L
+use Rattle.ranges.proofs.Laws as laws
 use Rattle.states.specs.declared.State.{State}
 use Rattle.states.specs.States as states
 use Rattle.states.specs.States.{Fit}
@@ -69,13 +69,13 @@ kept-same s f = record { fit = f; dead = λ d. d; held = λ σ h _. h }
 
 module _ (g : Setting) (small : g .n ≤ 64) where
   cut-ok : (at : ℕ) (s : State) (v : ℕ) (xs : List ℕ) (q : Bounded) → v < g .n → Fit (g .n) s →
-      ((σ : Store) → Holds (g .n) s σ → ranges.has xs (σ v) ≡ false → L.holds-bounded q (σ v)) → Sure (Split (g .n) (InSet v xs) s) (cut at s v xs q)
+      ((σ : Store) → Holds (g .n) s σ → ranges.has xs (σ v) ≡ false → laws.holds-bounded q (σ v)) → Sure (Split (g .n) (InSet v xs) s) (cut at s v xs q)
   unfolding True False
   cut-ok at s v xs (Is r) lt f out = given (record {
     yes = record {
       fit = fit-put (g .n) small s v (ranges.retain (states.get s v) xs) lt f;
       dead = put-dead s v (ranges.retain (states.get s v) xs);
-      held = λ σ h t. put-kept (g .n) small s v (ranges.retain (states.get s v) xs) σ lt f h (L.retain-holds (states.get s v) xs (σ v) (h .each v lt) t);
+      held = λ σ h t. put-kept (g .n) small s v (ranges.retain (states.get s v) xs) σ lt f h (laws.retain-holds (states.get s v) xs (σ v) (h .each v lt) t);
     };
     no = record {
       fit = fit-put (g .n) small s v r lt f;
@@ -89,7 +89,7 @@ module _ (g : Setting) (small : g .n ≤ 64) where
     unfolding rules.event rules.events True False AllTrue OneFalse
 
     pub event-ok : (e : Event) (at : ℕ) (s : State) → EventBelow (g .n) e → Fit (g .n) s → Sure (Split (g .n) e s) (rules.event g at e s)
-    event-ok (InSet v xs) at s lt f = cut-ok at s v xs (ranges.remove (states.get s v) xs) lt f (λ σ h t. L.remove-holds (states.get s v) xs (σ v) (h .each v lt) t)
+    event-ok (InSet v xs) at s lt f = cut-ok at s v xs (ranges.remove (states.get s v) xs) lt f (λ σ h t. laws.remove-holds (states.get s v) xs (σ v) (h .each v lt) t)
     event-ok (VarComparison v w) at s lt f = given (record { yes = kept-same s f; no = kept-same s f })
     event-ok (DataFromDist x d) at s lt f = given (record { yes = kept-same s f; no = kept-same s f })
     event-ok (Complement e) at s lt f = sure-then (event-ok e (at + 1) s lt f) (λ u U. given (record {

@@ -1,60 +1,83 @@
--- Each time the rules come to a loop, also to an inner one: what its analysis gives there.
-use mathlib.Core.Path.{_≡_}
+-- Each time that the rules come to a loop, also to an inner one, its analysis is as promised: the state that they come from is well formed.
+use mathlib.Core.Path.{_≡_, sym, subst}
 use mathlib.Core.List.{List, [], _∷_}
-use Prim.Native.Nat.{ℕ, _+_, _≤_}
+use Prim.Native.Nat.{ℕ, _+_, _*_, _≤_}
 use lib.ListN.{length}
 use Rattle.ranges.specs.Ranges as ranges
 use Rattle.states.specs.declared.State.{State}
+use Rattle.states.specs.Answers.{Answer, Gives}
 use Rattle.states.specs.States as states
 use Rattle.states.specs.States.{Fit}
 use Rattle.states.proofs.Fits.{fit-put, fit-join, fit-widen}
-use Rattle.paper.specs.Tree.{Statement, Sample, Assign, Decrement, IfThenElse, While, Fail, Normalize, Statements, done, _then_}
+use Rattle.paper.specs.Tree.{Event, Statement, Statements}
 use Rattle.paper.specs.Code as code
 use Rattle.paper.specs.Rules as rules
-use Rattle.states.specs.Answers.{Answer, Gives}
-use Rattle.paper.specs.Rules.{Setting, Sides, Pass, Looped}
-use Rattle.paper.specs.Runs.{Store, True, False, Runs, Turned}
-use Rattle.paper.proofs.Below.{EachBelow, StatementBelow, StatementsBelow}
-use Rattle.paper.specs.Promises.{LoopHolds, Head, first, next, joined, widened, Points, all-set, set-to, StatementLoops, ListLoops}
+use Rattle.paper.specs.Rules.{Setting, Pass, Looped}
+use Rattle.paper.specs.Runs.{Runs}
+use Rattle.paper.specs.Trace as trace
+use Rattle.paper.specs.Visits.{Visit, event-at, body-at, pass-at, exit-at, analysed-at, Head, first, next, joined, widened, Point, all-set, set-to}
+use Rattle.paper.specs.Visits.{StatementVisits, here, in-then, in-else, in-body, in-normalize, ListVisits, in-first, in-rest}
+use Rattle.paper.specs.Promises.{VisitHolds}
+use Rattle.paper.proofs.Below.{EachBelow, EventBelow, StatementBelow, StatementsBelow}
 use Rattle.paper.proofs.Sure.{Sure, sure-of}
-use Rattle.paper.proofs.Splits.{event-ok}
-use Rattle.paper.proofs.Loops.{Passed}
-use Rattle.paper.proofs.Sound.{pass-ok, looping-ok, statement-ok, list-ok}
+use Rattle.paper.proofs.Splits.{Split, event-ok}
+use Rattle.paper.proofs.Loops.{Post, Passed}
+use Rattle.paper.proofs.Sound.{pass-ok, exit-ok, looping-ok, statement-ok, list-ok}
+use Rattle.paper.proofs.Counted.{loop-most}
 
-head-fit : (n : ℕ) (small : n ≤ 64) (pass : State → Answer Pass) (Turn : Store → Store → Type 0) (Out : Store → Type 0) → ((s : State) → Fit n s → Sure (Passed n Turn Out s) (pass s)) →
-    (s h : State) → Fit n s → Head n pass s h → Fit n h
-head-fit n small pass Turn Out ok s h f first = f
-head-fit n small pass Turn Out ok s h f (next {h = k} {p = p} H e) = sure-of (ok k (head-fit n small pass Turn Out ok s k f H)) e .next .fit
-head-fit n small pass Turn Out ok s h f (joined {h = k} {p = p} H e) =
-    let i = head-fit n small pass Turn Out ok s k f H in fit-join n small k (p .next) i (sure-of (ok k i) e .next .fit)
-head-fit n small pass Turn Out ok s h f (widened {h = k} {p = p} H e) =
-    let i = head-fit n small pass Turn Out ok s k f H in fit-widen n small k (p .next) i (sure-of (ok k i) e .next .fit)
+module _ (n : ℕ) (small : n ≤ 64) where
+  head-fit : (e : Event) (b : Statements) (pass : State → Answer Pass) → ((s : State) → Fit n s → Sure (Passed n e b s) (pass s)) → (s h : State) → Fit n s → Head n pass s h → Fit n h
+  head-fit e b pass ok s h f first = f
+  head-fit e b pass ok s h f (next {h = k} {p = p} H q) = sure-of (ok k (head-fit e b pass ok s k f H)) q .next .fit
+  head-fit e b pass ok s h f (joined {h = k} {p = p} H q) =
+      let i = head-fit e b pass ok s k f H in fit-join n small k (p .next) i (sure-of (ok k i) q .next .fit)
+  head-fit e b pass ok s h f (widened {h = k} {p = p} H q) =
+      let i = head-fit e b pass ok s k f H in fit-widen n small k (p .next) i (sure-of (ok k i) q .next .fit)
 
-points-fit : (n : ℕ) (small : n ≤ 64) {vs : List ℕ} (s h : State) → EachBelow n vs → Fit n s → Points vs s h → Fit n h
-points-fit n small s h lt f all-set = f
-points-fit n small s h lt f (set-to {v = v} x P) = points-fit n small (states.put s v (ranges.point x)) h (lt .1) (fit-put n small s v (ranges.point x) (lt .0) f) P
+  point-fit : {vs : List ℕ} (s h : State) → EachBelow n vs → Fit n s → Point vs s h → Fit n h
+  point-fit s h lt f all-set = f
+  point-fit s h lt f (set-to {v = v} x P) = point-fit (states.put s v (ranges.point x)) h (lt .1) (fit-put n small s v (ranges.point x) (lt .0) f) P
+
+-- a loop whose variables are below n, come to from a state of n variables
+pub record Good (n : ℕ) (v : Visit) : Type 0 where
+  pub event : EventBelow n (v .event)
+  pub body : StatementsBelow n (v .body)
+  pub from : Fit n (v .from)
 
 module _ (g : Setting) (small : g .n ≤ 64) where
-  mutual
-    pub statement-loops : (c : Statement) (at : ℕ) (s : State) → StatementBelow (g .n) c → Fit (g .n) s → StatementLoops g c at s
-    statement-loops (Sample v add d) at s lt f = tt
-    statement-loops (Assign v add x k) at s lt f = tt
-    statement-loops (Decrement v k) at s lt f = tt
-    statement-loops (IfThenElse e t o) at s lt f = λ u q.
-        let U = sure-of (event-ok g small e (at + 1) s (lt .0) f) q in
-        (list-loops t (at + 1 + length (code.event e) + 1) (u .yes) (lt .1) (U .yes .fit), list-loops o (at + 1 + length (code.event e) + 1 + length (code.list t) + 1) (u .no) (lt .2) (U .no .fit))
-    statement-loops (While m e b) at s lt f = (
-      λ l q. sure-of (looping-ok (g .n) small e b (λ h. rules.event g (at + 3) e h) (λ h. rules.list g (at + 3 + length (code.event e) + 1) b h)
-          (λ s f. event-ok g small e (at + 3) s (lt .0) f) (λ s f. list-ok g small b (at + 3 + length (code.event e) + 1) s (lt .1) f) (rules.turns g m) s f) q,
-      λ h H u q.
-          let i = head-fit (g .n) small (rules.pass-of (λ h. rules.event g (at + 3) e h) (λ h. rules.list g (at + 3 + length (code.event e) + 1) b h)) (λ σ τ. True e σ × Runs b σ τ) (False e)
-          (pass-ok (g .n) small e b (λ h. rules.event g (at + 3) e h) (λ h. rules.list g (at + 3 + length (code.event e) + 1) b h)
-          (λ s f. event-ok g small e (at + 3) s (lt .0) f) (λ s f. list-ok g small b (at + 3 + length (code.event e) + 1) s (lt .1) f)) s h f H in
-          list-loops b (at + 3 + length (code.event e) + 1) (u .yes) (lt .1) (sure-of (event-ok g small e (at + 3) h (lt .0) i) q .yes .fit),
-    )
-    statement-loops Fail at s lt f = tt
-    statement-loops (Normalize vs b) at s lt f = λ h P. list-loops b (at + 2 + length vs + 1) h (lt .1) (points-fit (g .n) small s h (lt .0) f P)
+  event-fine : (v : Visit) → Good (g .n) v → (s : State) → Fit (g .n) s → Sure (Split (g .n) (v .event) s) (event-at g v s)
+  event-fine v G s f = event-ok g small (v .event) (v .place + 3) s (G .event) f
 
-    pub list-loops : (p : Statements) (at : ℕ) (s : State) → StatementsBelow (g .n) p → Fit (g .n) s → ListLoops g p at s
-    list-loops done at s lt f = tt
-    list-loops (c then cs) at s lt f = (statement-loops c at s (lt .0) f, λ t q. list-loops cs (at + length (code.statement c)) t (lt .1) (sure-of (statement-ok g small c at s (lt .0) f) q .fit))
+  body-fine : (v : Visit) → Good (g .n) v → (s : State) → Fit (g .n) s → Sure (Post (g .n) (Runs (v .body)) s) (body-at g v s)
+  body-fine v G s f = list-ok g small (v .body) (code.body-at (v .place) (v .event) + 1) s (G .body) f
+
+  -- the analysis of such a loop is as promised
+  pub visit-holds : (v : Visit) (l : Looped) → Good (g .n) v → analysed-at g v ≡ Gives l → VisitHolds g v l
+  visit-holds v l G q = sure-of (looping-ok (g .n) small (v .event) (v .body) (event-at g v) (body-at g v) (event-fine v G) (body-fine v G) (rules.turns g (v .unroll)) (v .from) (G .from)) q .holds
+
+  -- and its body is gone over so often at most
+  pub visit-most : (v : Visit) → Good (g .n) v →
+      length (trace.loop (g .n) (pass-at g v) (λ _. v .place ∷ []) (exit-at g v) (rules.turns g (v .unroll)) (v .from)) ≤ 201 + rules.turns g (v .unroll) + 2 * g .n
+  visit-most v G = loop-most (g .n) small (v .event) (v .body) (pass-at g v) (exit-at g v)
+      (pass-ok (g .n) small (v .event) (v .body) (event-at g v) (body-at g v) (event-fine v G) (body-fine v G))
+      (exit-ok (g .n) small (v .event) (v .body) (event-at g v) (body-at g v) (event-fine v G) (body-fine v G)) (v .place) (v .from) (rules.turns g (v .unroll)) (G .from)
+
+  mutual
+    statement-visits : (c : Statement) (at : ℕ) (s : State) (v : Visit) → StatementBelow (g .n) c → Fit (g .n) s → StatementVisits g c at s v → Good (g .n) v
+    statement-visits c at s v lt f (here q) = subst (Good (g .n)) (sym q) (record { event = lt .0; body = lt .1; from = f })
+    statement-visits c at s v lt f (in-then {e = e} {t = t} {sides = u} q inside) =
+        list-visits t (code.then-at at e + 1) (u .yes) v (lt .1) (sure-of (event-ok g small e (at + 1) s (lt .0) f) q .yes .fit) inside
+    statement-visits c at s v lt f (in-else {e = e} {t = t} {f = o} {sides = u} q inside) =
+        list-visits o (code.else-at at e t + 1) (u .no) v (lt .2) (sure-of (event-ok g small e (at + 1) s (lt .0) f) q .no .fit) inside
+    statement-visits c at s v lt f (in-body {u = m} {e = e} {b = b} {h = h} {sides = u} H q inside) =
+        let loop : Visit = record { unroll = m; event = e; body = b; place = at; from = s } in
+        let G : Good (g .n) loop = record { event = lt .0; body = lt .1; from = f } in
+        let i = head-fit (g .n) small e b (pass-at g loop) (pass-ok (g .n) small e b (event-at g loop) (body-at g loop) (event-fine loop G) (body-fine loop G)) s h f H in
+        list-visits b (code.body-at at e + 1) (u .yes) v (lt .1) (sure-of (event-ok g small e (at + 3) h (lt .0) i) q .yes .fit) inside
+    statement-visits c at s v lt f (in-normalize {vs = vs} {b = b} {h = h} P inside) =
+        list-visits b (code.normalized-at at vs + 1) h v (lt .1) (point-fit (g .n) small s h (lt .0) f P) inside
+
+    pub list-visits : (p : Statements) (at : ℕ) (s : State) (v : Visit) → StatementsBelow (g .n) p → Fit (g .n) s → ListVisits g p at s v → Good (g .n) v
+    list-visits p at s v lt f (in-first {c = c} inside) = statement-visits c at s v (lt .0) f inside
+    list-visits p at s v lt f (in-rest {c = c} {cs = cs} {t = t} q inside) =
+        list-visits cs (at + length (code.statement c)) t v (lt .1) (sure-of (statement-ok g small c at s (lt .0) f) q .fit) inside

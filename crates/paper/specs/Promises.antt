@@ -1,107 +1,135 @@
--- Certainty 3: what the analysis promises of runs, of a loop's passes and of the state it settles on.
+-- Certainty 3 and the marks, on one page: what is certain of an answer. `certain` of proofs/Certain.antt proves it all.
+-- What a program is: Tree, Code, Limits. What it does: Runs, Entries. What the analysis does: Rules, Visits, Trace, Answers.
 use mathlib.Core.Path.{_≡_}
-use mathlib.Core.Bool.{false}
+use mathlib.Core.Bool.{true, false}
 use mathlib.Core.List.{List, [], _∷_}
-use Prim.Native.Nat.{ℕ, _+_, _*_, max, _≤_}
-use lib.ListN.{length}
+use mathlib.Core.Logic.{_↔_}
+use Prim.Native.Nat.{ℕ, _+_, _*_, _≤_}
+use lib.ListN.{length, getD}
 use Rattle.ranges.specs.Ranges as ranges
 use Rattle.states.specs.declared.State.{State}
 use Rattle.states.specs.declared.Cell.{Cell}
+use Rattle.states.specs.Answers.{Answer, Gives}
 use Rattle.states.specs.States as states
 use Rattle.states.specs.States.{Fit}
-use Rattle.paper.specs.Tree.{Event, Unroll, Statement, Sample, Assign, Decrement, IfThenElse, While, Fail, Normalize, Statements, done, _then_}
-use Rattle.paper.specs.Code as code
+use Rattle.paper.specs.Tree.{Draw, Event, Unroll, While, Statements, done, _then_}
+use Rattle.paper.specs.Limits.{EventIn, StatementsIn, IsProgram}
 use Rattle.paper.specs.Reader as reader
 use Rattle.paper.specs.Reader.{Read}
 use Rattle.paper.specs.Rules as rules
-use Rattle.states.specs.Answers.{Answer, Gives}
-use Rattle.paper.specs.Rules.{Setting, Sides, Pass, Looped}
-use Rattle.paper.specs.Runs.{Store, False, Runs, Turned, Holds}
-use Rattle.paper.specs.Limits.{EventIn, StatementsIn}
+use Rattle.paper.specs.Rules.{Setting, Pass, Found, Settling, Looped}
+use Rattle.paper.specs.Runs.{Store, Takes, _∈_, False, Runs, Turned, Holds}
+use Rattle.paper.specs.Entries.{ListEnters}
+use Rattle.paper.specs.Visits.{Visit, pass-at, exit-at, analysed-at, Head, Point, ListVisits}
+use Rattle.paper.specs.Trace as trace
 use Rattle.paper.specs.Answers as answers
 use Rattle.paper.specs.Answers.{Outcome}
 
--- what a loop's analysis gives from s: Reach k leads from a store at the head to those at the head after k turns
-pub record LoopHolds (n : ℕ) (Reach : ℕ → Store → Store → Type 0) (Out : Store → Type 0) (u : ℕ) (s : State) (l : Looped) : Type 0 where
-  pub fit : Fit n (l .exits)
-  pub dead : s .live ≡ false → l .exits .live ≡ false
-  pub covers : (k : ℕ) (σ τ : Store) → Holds n s σ → Reach k σ τ → Out τ → Holds n (l .exits) τ
-  pub settled : (k : ℕ) (σ τ : Store) → l .unrolls ≤ k → Holds n s σ → Reach k σ τ → Holds n (l .settled) τ
-  pub searched : l .searched ≤ 100
-  pub unrolls : l .unrolls ≤ max u 99
+-- ---- a word list
+
+-- no run of the program that the words code, from the caller's ranges, comes to the beginning of the list whose count stands at a place: it is dead
+abbrev pub Dead : List ℕ → ℕ → List Cell → ℕ → Type 0
+Dead ws n cs place = (p : IsProgram n ws) (σ : Store) → Holds n (states.live cs) σ → ListEnters (p .tree) 1 σ place → ⊥
+
+-- what is certain of the state t that is answered for a word list over n variables, the caller's ranges and a default unroll.
+-- A run begins in any store that lies in each of the caller's first n ranges: in every store if n is 0, in none if one of them is Empty.
+pub record Covers (ws : List ℕ) (n : ℕ) (cs : List Cell) (u : ℕ) (t : State) : Type 0 where
+  -- the words code a program within the limits, the one that is read
+  pub program : IsProgram n ws
+  pub read : reader.program ws n ≡ Read (program .tree) (length ws)
+  -- every finite run of it that does not fail ends in t; where t is empty, none ends
+  pub covers : (σ τ : Store) → Holds n (states.live cs) σ → Runs (program .tree) σ τ → Holds n t τ
+  pub none-ends : t .live ≡ false → (σ τ : Store) → Holds n (states.live cs) σ → Runs (program .tree) σ τ → ⊥
+  -- every list that a run enters, also one that does not end, is named by the trace
+  pub named : (σ : Store) (place : ℕ) → Holds n (states.live cs) σ → ListEnters (program .tree) 1 σ place → ranges.has (answers.entered ws n cs u) place ≡ true
+  -- t is a state of n variables
+  pub fit : Fit n t
+
+-- ---- a loop
+
+-- a state at a loop's head is accepted by one more pass: the pass is made, and its new state lies within it
+pub record Accepted (n : ℕ) (pass : State → Answer Pass) (s : State) : Type 0 where
+  pub last : Pass
+  pub made : pass s ≡ Gives last
+  pub stays : states.within n (last .next) s ≡ true
+
+-- what is certain of the analysis l of the loop `while e do b`, whose unroll is u, from s: over n variables, by its pass and by what leaves it
+pub record LoopHolds (n : ℕ) (pass : State → Answer Pass) (exit : State → Answer State) (e : Event) (b : Statements) (u : ℕ) (s : State) (l : Looped) : Type 0 where
+  -- a run that leaves the loop, after any number of turns, leaves it inside the result
+  pub covers : (k : ℕ) (σ τ : Store) → Holds n s σ → Turned e b k σ τ → False e τ → Holds n (l .exits) τ
+  -- the settled state holds every run that reaches the head after the unrolled turns
+  pub settled : (k : ℕ) (σ τ : Store) → l .unrolls ≤ k → Holds n s σ → Turned e b k σ τ → Holds n (l .settled) τ
+  -- it is accepted by one more pass
+  pub accepted : Accepted n pass (l .settled)
+  -- it grew from the state after the unrolled turns, which holds every run that reaches the head after just those
+  pub turned : (σ τ : Store) → Holds n s σ → Turned e b (l .unrolls) σ τ → Holds n (l .turned) τ
+  pub grown : states.within n (l .turned) (l .settled) ≡ true
+  -- at most 100 search passes; it found an index, or none
+  pub found : Found
+  pub search : rules.search n pass exit 100 0 s ≡ Gives found
+  pub searched : (l .searched ≡ rules.search-passes found) × (l .searched ≤ 100)
+  -- max(u, i) unrolled passes if it found i, u if none
+  pub unrolls : l .unrolls ≡ rules.unroll-passes u found
+  -- at most 100 joining passes and 2n + 1 widening passes, and the widening stage always settles
   pub joined : l .joined ≤ 100
   pub widened : l .widened ≤ 2 * n + 1
+  pub settles : (j w : Settling) → rules.growing n pass exit (states.join n) 100 0 (l .turned) ≡ Gives j → rules.growing n pass exit (states.widen n) (n + n + 1) 0 (j .at) ≡ Gives w → w .settled ≡ true
+  -- together
   pub passes : l .searched + l .unrolls + l .joined + l .widened ≤ 201 + u + 2 * n
+  -- its states are states of n variables
+  pub exits-fit : Fit n (l .exits)
+  pub turned-fit : Fit n (l .turned)
+  pub settled-fit : Fit n (l .settled)
 
--- the states from which a loop that is analysed from s goes over its body, and maybe more
-pub data Head (n : ℕ) (pass : State → Answer Pass) (s : State) : State → Type 0 where
-  first : Head n pass s s
-  next : {h : State} {p : Pass} → Head n pass s h → pass h ≡ Gives p → Head n pass s (p .next)
-  joined : {h : State} {p : Pass} → Head n pass s h → pass h ≡ Gives p → Head n pass s (states.join n h (p .next))
-  widened : {h : State} {p : Pass} → Head n pass s h → pass h ≡ Gives p → Head n pass s (states.widen n h (p .next))
+-- the same, for a loop that the rules come to
+abbrev pub VisitHolds : Setting → Visit → Looped → Type 0
+VisitHolds g v l = LoopHolds (g .n) (pass-at g v) (exit-at g v) (v .event) (v .body) (rules.turns g (v .unroll)) (v .from) l
 
--- the states from which a normalize that is analysed from s goes over its body, and maybe more
-pub data Points : List ℕ → State → State → Type 0 where
-  all-set : {s : State} → Points [] s s
-  set-to : {v : ℕ} {vs : List ℕ} {s h : State} (x : ℕ) → Points vs (states.put s v (ranges.point x)) h → Points (v ∷ vs) s h
-
-module _ (g : Setting) where
-  abbrev mutual
-    -- in a statement at a place, analysed from s, the analysis of each loop, each time, is as promised
-    pub StatementLoops : Statement → ℕ → State → Type 0
-    StatementLoops (Sample v add d) at s = Unit {0}
-    StatementLoops (Assign v add x k) at s = Unit {0}
-    StatementLoops (Decrement v k) at s = Unit {0}
-    StatementLoops (IfThenElse e t f) at s = (u : Sides) → rules.event g (at + 1) e s ≡ Gives u →
-        ListLoops t (code.then-at at e + 1) (u .yes) × ListLoops f (code.else-at at e t + 1) (u .no)
-    StatementLoops (While m e b) at s =
-        ((l : Looped) → rules.looping (g .n) (λ h. rules.event g (at + 3) e h) (λ h. rules.list g (code.body-at at e + 1) b h) (rules.turns g m) s ≡ Gives l →
-        LoopHolds (g .n) (Turned e b) (False e) (rules.turns g m) s l)
-        × ((h : State) → Head (g .n) (rules.pass-of (λ h. rules.event g (at + 3) e h) (λ h. rules.list g (code.body-at at e + 1) b h)) s h →
-        (u : Sides) → rules.event g (at + 3) e h ≡ Gives u → ListLoops b (code.body-at at e + 1) (u .yes))
-    StatementLoops Fail at s = Unit {0}
-    StatementLoops (Normalize vs b) at s = (h : State) → Points vs s h → ListLoops b (code.normalized-at at vs + 1) h
-
-    pub ListLoops : Statements → ℕ → State → Type 0
-    ListLoops done at s = Unit {0}
-    ListLoops (c then cs) at s = StatementLoops c at s × ((t : State) → rules.statement g at c s ≡ Gives t → ListLoops cs (at + length (code.statement c)) t)
-
--- ---- on words
-
--- what the analysis of a word list gives: its program, its starting state, where every run of it from the caller's ranges ends,
--- and what the analysis of each loop gives, each time
-pub record Covers (ws : List ℕ) (n : ℕ) (cs : List Cell) (u : ℕ) (t : State) : Type 0 where
-  pub program : Statements
-  pub next : ℕ
-  pub read : reader.program ws n ≡ Read program next
-  pub start : State
-  pub started : answers.admitted ws n u cs ≡ Gives start
-  pub fit : Fit n t
-  pub covers : (σ τ : Store) → Holds n (states.live cs) σ → Runs program σ τ → Holds n t τ
-  pub none-ends : t .live ≡ false → (σ τ : Store) → Holds n (states.live cs) σ → Runs program σ τ → ⊥
-  pub loops : ListLoops (record { n = n; unroll = u }) program 1 start
-
--- what a loop's own entry gives
+-- what is certain of the analysis l that is answered by a loop's own entry
 pub record LoopCovers (ws : List ℕ) (n : ℕ) (cs : List Cell) (u : ℕ) (l : Looped) : Type 0 where
+  -- the words code a program that is one loop
+  pub program : IsProgram n ws
   pub unroll : Unroll
   pub event : Event
   pub body : Statements
-  pub next : ℕ
-  pub read : reader.program ws n ≡ Read (While unroll event body then done) next
-  pub start : State
-  pub started : answers.admitted ws n u cs ≡ Gives start
+  pub is : program .tree ≡ (While unroll event body then done)
+  -- a run of it that leaves the loop leaves it inside the result; the settled state holds it at the head after the unrolled turns
   pub covers : (k : ℕ) (σ τ : Store) → Holds n (states.live cs) σ → Turned event body k σ τ → False event τ → Holds n (l .exits) τ
   pub settled : (k : ℕ) (σ τ : Store) → l .unrolls ≤ k → Holds n (states.live cs) σ → Turned event body k σ τ → Holds n (l .settled) τ
-  pub searched : l .searched ≤ 100
-  pub joined : l .joined ≤ 100
-  pub widened : l .widened ≤ 2 * n + 1
-  pub passes : l .searched + l .unrolls + l .joined + l .widened ≤ 201 + rules.turns (record { n = n; unroll = u }) unroll + 2 * n
-  pub loops : StatementLoops (record { n = n; unroll = u }) (While unroll event body) 1 start
+  -- all else is as for every loop, from the starting state
+  pub start : State
+  pub started : answers.admitted ws n u cs ≡ Gives start
+  pub loop : VisitHolds (record { n = n; unroll = u }) (record { unroll = unroll; event = event; body = body; place = 1; from = start }) l
 
--- all of it
+-- ---- all of it
+
+-- the caller's ranges are 64 cells by their type; nothing else is asked that the analysis does not refuse
 pub record Certainty : Type 0 where
+  -- the library's three answers: for a word list, for a loop's own entry, and for the program that reads words alone, whose variables start at 0
   pub analysed : (ws : List ℕ) (n : ℕ) (cs : List Cell) (u : ℕ) (t : State) → length cs ≡ 64 → answers.analysed ws n cs u ≡ Gives t → Covers ws n cs u t
   pub looped : (ws : List ℕ) (n : ℕ) (cs : List Cell) (u : ℕ) (l : Looped) → length cs ≡ 64 → answers.looped ws n cs u ≡ Gives l → LoopCovers ws n cs u l
   pub ran : (ws : List ℕ) (o : Outcome) → answers.ran ws ≡ Gives o → Covers ws (o .n) states.zeros 0 (o .state)
-  pub each-loop : (g : Setting) (deep loops : ℕ) (e : Event) (b : Statements) (i j u : ℕ) (s : State) (l : Looped) → g .n ≤ 64 → EventIn (g .n) deep e → StatementsIn (g .n) deep loops b → Fit (g .n) s →
-      rules.looping (g .n) (λ h. rules.event g i e h) (λ h. rules.list g j b h) u s ≡ Gives l → LoopHolds (g .n) (Turned e b) (False e) u s l
+  -- each time that the rules, going over a program from its starting state, come to a loop and analyse it, also an inner one
+  pub each-loop : (ws : List ℕ) (n : ℕ) (cs : List Cell) (u : ℕ) (p : IsProgram n ws) (start : State) (v : Visit) (l : Looped) → length cs ≡ 64 → answers.admitted ws n u cs ≡ Gives start →
+      ListVisits (record { n = n; unroll = u }) (p .tree) 1 start v → analysed-at (record { n = n; unroll = u }) v ≡ Gives l → VisitHolds (record { n = n; unroll = u }) v l
+  -- and any loop within the limits, from any state of n variables, whether or not the rules come to it
+  pub any-loop : (g : Setting) (deep loops : ℕ) (v : Visit) (l : Looped) → g .n ≤ 64 → EventIn (g .n) deep (v .event) → StatementsIn (g .n) deep loops (v .body) → Fit (g .n) (v .from) →
+      analysed-at g v ≡ Gives l → VisitHolds g v l
+  -- such a loop's body is gone over at most 201 + U + 2n times, also where the analysis refuses: the trace of its passes, each written down as one place, is no longer
+  pub gone-over : (g : Setting) (deep loops : ℕ) (v : Visit) → g .n ≤ 64 → EventIn (g .n) deep (v .event) → StatementsIn (g .n) deep loops (v .body) → Fit (g .n) (v .from) →
+      length (trace.loop (g .n) (pass-at g v) (λ _. v .place ∷ []) (exit-at g v) (rules.turns g (v .unroll)) (v .from)) ≤ 201 + rules.turns g (v .unroll) + 2 * g .n
+  -- where it answers, its four counts together are the number of its passes
+  pub counted : (n : ℕ) (pass : State → Answer Pass) (exit : State → Answer State) (u : ℕ) (s : State) (l : Looped) (place : ℕ) → rules.loop n pass exit u s ≡ Gives l →
+      length (trace.loop n pass (λ _. place ∷ []) exit u s) ≡ l .searched + l .unrolls + l .joined + l .widened
+  -- a loop's analysis looks at its pass at no state but a `Head`, a normalize at its body at none but a `Point`: so no visit is missed
+  pub heads : (n : ℕ) (pass other : State → Answer Pass) (exit : State → Answer State) (u : ℕ) (s : State) → ((h : State) → Head n pass s h → pass h ≡ other h) →
+      rules.loop n pass exit u s ≡ rules.loop n other exit u s
+  pub points : (n : ℕ) (body other : State → Answer State) (at : ℕ) (vs : List ℕ) (s : State) → ((h : State) → Point vs s h → body h ≡ other h) →
+      rules.normalized n body at vs s ≡ rules.normalized n other at vs s
+  -- a list that the trace does not name is dead, and so is one whose byte is 0 among the marks
+  pub entered : (ws : List ℕ) (n : ℕ) (cs : List Cell) (u : ℕ) (t : State) (place : ℕ) → length cs ≡ 64 → answers.analysed ws n cs u ≡ Gives t →
+      ranges.has (answers.entered ws n cs u) place ≡ false → Dead ws n cs place
+  pub marked : (ws : List ℕ) (n : ℕ) (cs : List Cell) (u : ℕ) (t : State) (marks : List ℕ) (place : ℕ) → length cs ≡ 64 → answers.analysed ws n cs u ≡ Gives t →
+      length ws ≤ length marks → getD (trace.mark (answers.entered ws n cs u) marks) place 0 ≡ 0 → Dead ws n cs place
+  -- a draw takes just the numbers of its range
+  pub draws : (d : Draw) (x : ℕ) → Takes d x ↔ (x ∈ rules.drawn d)

@@ -4,18 +4,17 @@ use mathlib.Core.Bool.{true, false, cond}
 use mathlib.Core.List.{List, [], _∷_, _++_}
 use Prim.Native.Nat.{ℕ, zero, suc, _+_, _-_}
 use lib.Dec.{ltb}
-use lib.ListN.{length, set, replicate}
+use lib.ListN.{length, set}
 use Rattle.ranges.specs.declared.End.the-variants.{At, Open}
 use Rattle.ranges.specs.declared.Range.{Range}
 use Rattle.ranges.specs.declared.Range.the-variants.{Empty, Span}
 use Rattle.ranges.specs.Ranges as ranges
 use Rattle.states.specs.declared.State.{State}
-use Rattle.states.specs.declared.Cell.{Cell}
 use Rattle.states.specs.Answers.{Answer, Gives, Refuses}
 use Rattle.states.specs.States as states
 use Rattle.paper.specs.Code as code
 use Rattle.paper.specs.Rules as rules
-use Rattle.paper.specs.Rules.{Setting, Pass, Found, Settling, Settled}
+use Rattle.paper.specs.Rules.{Setting, Pass}
 use Rattle.paper.specs.Tree.{Statement, Sample, Assign, Decrement, IfThenElse, While, Fail, Normalize, Statements, done, _then_}
 
 -- what is entered after an answer; after a refusal, nothing

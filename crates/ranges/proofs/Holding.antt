@@ -1,13 +1,12 @@
 -- Which values the operations' answers hold, for values of any size: first as facts of numbers, then of the test `holds`.
-use mathlib.Core.Path.{_≡_, refl, sym, ap, _∙_}
+use mathlib.Core.Path.{_≡_, refl, sym}
 use mathlib.Core.Bool.{Bool, true, false, cond, false≢true}
 use mathlib.Core.Logic.{_↔_}
 use mathlib.Core.List.{List, [], _∷_}
-use Prim.Native.Nat.{ℕ, zero, suc, _+_, _-_, _*_, max, _≤_, _<_}
+use Prim.Native.Nat.{ℕ, suc, _+_, _-_, _*_, max, _≤_}
 use native.Mathlib.Nat.{mul-le-mul-right}
 use native.Mathlib.Omega.{arith}
-use lib.Dec.{leb, ltb, eqb}
-use lib.ListN.{length}
+use lib.Dec.{leb, eqb}
 use borrow.Author.Tests.{leb-true, leb-false, ltb-false, eqb-true, le-leb}
 use Rattle.ranges.specs.declared.End.{End}
 use Rattle.ranges.specs.declared.End.the-variants.{At, Open}
@@ -60,10 +59,6 @@ of-in-bounded Over x h = tt
 
 -- ---- within is inclusion
 
--- a range whose start is at most its end, where it has one
-abbrev pub Proper : Range → Type 0
-Proper r = ranges.crossed r ≡ false
-
 within-ends-in : (e f : End) (x : ℕ) → ranges.within-ends e f ≡ true → In-end e x → In-end f x
 within-ends-in e Open x h k = tt
 within-ends-in (At u) (At w) x h k = omega (arith, leb-true u w h)
@@ -75,7 +70,7 @@ within-in (Span s e) Empty x h k = absurd (false≢true h)
 within-in (Span s e) (Span t f) x h k =
     (omega (arith, leb-true t s (left-of (leb t s) (ranges.within-ends e f) h)), within-ends-in e f x (right-of (leb t s) (ranges.within-ends e f) h) (k .1))
 
-within-back : (a b : Range) → Proper a → ((x : ℕ) → In a x → In b x) → ranges.within a b ≡ true
+within-back : (a b : Range) → ranges.crossed a ≡ false → ((x : ℕ) → In a x → In b x) → ranges.within a b ≡ true
 within-back Empty b p h = refl
 within-back (Span s (At u)) Empty p h = absurd (h s (omega arith, ltb-false u s p))
 within-back (Span s Open) Empty p h = absurd (h s (omega arith, tt))
@@ -88,7 +83,7 @@ pub within-holds : (a b : Range) (x : ℕ) → ranges.within a b ≡ true → ra
 within-holds a b x h k = of-in b x (within-in a b x h (in-of a x k))
 
 -- `within` is what it says, of a range that is not crossed
-pub within-says : (a b : Range) → Proper a → (ranges.within a b ≡ true) ↔ ((x : ℕ) → ranges.holds a x ≡ true → ranges.holds b x ≡ true)
+pub within-says : (a b : Range) → ranges.crossed a ≡ false → (ranges.within a b ≡ true) ↔ ((x : ℕ) → ranges.holds a x ≡ true → ranges.holds b x ≡ true)
 within-says a b p = (λ h x k. within-holds a b x h k, λ h. within-back a b p (λ x i. in-of b x (h x (of-in a x i))))
 
 -- ---- what the operations hold

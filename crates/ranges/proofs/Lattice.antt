@@ -30,9 +30,6 @@ right-of false b h = absurd (false≢true h)
 within-parts : (s : ℕ) (e : End) (t : ℕ) (f : End) → ranges.within (Span s e) (Span t f) ≡ true → (t ≤ s) × (ranges.within-ends e f ≡ true)
 within-parts s e t f h = (leb-true t s (left-of (leb t s) (ranges.within-ends e f) h), right-of (leb t s) (ranges.within-ends e f) h)
 
-within-whole : (s : ℕ) (e : End) (t : ℕ) (f : End) → t ≤ s → ranges.within-ends e f ≡ true → ranges.within (Span s e) (Span t f) ≡ true
-within-whole s e t f h k = both (le-leb t s h) k
-
 -- ---- within is an order
 
 within-ends-self : (e : End) → ranges.within-ends e e ≡ true
@@ -41,7 +38,7 @@ within-ends-self Open = refl
 
 pub within-self : (a : Range) → ranges.within a a ≡ true
 within-self Empty = refl
-within-self (Span s e) = within-whole s e s e (omega arith) (within-ends-self e)
+within-self (Span s e) = both (le-leb s s (omega arith)) (within-ends-self e)
 
 within-ends-trans : (e f g : End) → ranges.within-ends e f ≡ true → ranges.within-ends f g ≡ true → ranges.within-ends e g ≡ true
 within-ends-trans e f Open h k = refl
@@ -56,7 +53,7 @@ within-trans (Span s e) (Span t f) Empty h k = absurd (false≢true k)
 within-trans (Span s e) (Span t f) (Span u g) h k =
     let p = within-parts s e t f h in
     let q = within-parts t f u g k in
-    within-whole s e u g (omega (arith, p .0, q .0)) (within-ends-trans e f g (p .1) (q .1))
+    both (le-leb u s (omega (arith, p .0, q .0))) (within-ends-trans e f g (p .1) (q .1))
 
 within-ends-antisym : (e f : End) → ranges.within-ends e f ≡ true → ranges.within-ends f e ≡ true → e ≡ f
 within-ends-antisym (At x) (At y) h k = let q : x ≡ y = omega (arith, leb-true x y h, leb-true y x k) in ap At q
@@ -146,7 +143,7 @@ join-ends-above Open f = refl
 pub join-above-left : (a b : Range) → ranges.within a (ranges.join a b) ≡ true
 join-above-left Empty b = refl
 join-above-left (Span s e) Empty = within-self (Span s e)
-join-above-left (Span s e) (Span t f) = within-whole s e (min s t) (ranges.join-ends e f) (omega arith) (join-ends-above e f)
+join-above-left (Span s e) (Span t f) = both (le-leb (min s t) s (omega arith)) (join-ends-above e f)
 
 pub join-above-right : (a b : Range) → ranges.within b (ranges.join a b) ≡ true
 join-above-right a b = rw (join-comm a b) (join-above-left b a)
@@ -164,7 +161,7 @@ join-least (Span s e) (Span t f) Empty h k = h
 join-least (Span s e) (Span t f) (Span u g) h k =
     let p = within-parts s e u g h in
     let q = within-parts t f u g k in
-    within-whole (min s t) (ranges.join-ends e f) u g (omega (arith, p .0, q .0)) (join-ends-least e f g (p .1) (q .1))
+    both (le-leb u (min s t) (omega (arith, p .0, q .0))) (join-ends-least e f g (p .1) (q .1))
 
 pub join-filled : (a b : Range) → ranges.is-empty a ≡ false → ranges.is-empty (ranges.join a b) ≡ false
 join-filled Empty b h = absurd (false≢true (sym h))
@@ -195,12 +192,12 @@ kept-le false s t h = omega arith
 pub widen-above-old : (a b : Range) → ranges.within a (ranges.widen a b) ≡ true
 widen-above-old Empty b = refl
 widen-above-old (Span s e) Empty = within-self (Span s e)
-widen-above-old (Span s e) (Span t f) = within-whole s e (cond (leb s t) s 0) (ranges.widen-ends e f) (kept-le (leb s t) s s (λ q. omega arith)) (widen-ends-old e f)
+widen-above-old (Span s e) (Span t f) = both (le-leb _ _ (kept-le (leb s t) s s (λ q. omega arith))) (widen-ends-old e f)
 
 pub widen-above-new : (a b : Range) → ranges.within b (ranges.widen a b) ≡ true
 widen-above-new Empty b = within-self b
 widen-above-new (Span s e) Empty = refl
-widen-above-new (Span s e) (Span t f) = within-whole t f (cond (leb s t) s 0) (ranges.widen-ends e f) (kept-le (leb s t) s t (λ q. leb-true s t q)) (widen-ends-new e f)
+widen-above-new (Span s e) (Span t f) = both (le-leb _ _ (kept-le (leb s t) s t (λ q. leb-true s t q))) (widen-ends-new e f)
 
 pub widen-filled : (a b : Range) → ranges.is-empty a ≡ false → ranges.is-empty (ranges.widen a b) ≡ false
 widen-filled Empty b h = absurd (false≢true (sym h))

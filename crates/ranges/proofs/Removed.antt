@@ -1,7 +1,7 @@
 -- `remove` is what specs/Removal says, for every range and every list of numbers, and that has one answer only.
-use mathlib.Core.Path.{_≡_, refl, sym, ap, ap₂, _∙_}
+use mathlib.Core.Path.{_≡_, refl, sym, ap, _∙_}
 use mathlib.Core.Bool.{Bool, true, false, cond, false≢true}
-use mathlib.Core.Logic.{_↔_, _⊎_, ⊎-elim}
+use mathlib.Core.Logic.{_↔_}
 use mathlib.Core.List.{List, [], _∷_}
 use Prim.Native.Nat.{ℕ, zero, suc, _+_, _-_, _≤_, _<_}
 use native.Mathlib.Omega.{arith}
@@ -71,9 +71,9 @@ by-test : {A : Type 0} (P : A → Type 0) (b : Bool) (x y : A) → (b ≡ true �
 by-test P true x y h k = h refl
 by-test P false x y h k = k refl
 
--- a number that is in the set is not one that is not
-apart : (set : List ℕ) (x y : ℕ) → ranges.has set x ≡ true → ranges.has set y ≡ false → x ≡ y → ⊥
-apart set x y h k q = false≢true (sym k ∙ sym (ap (ranges.has set) q) ∙ h)
+-- no number is both in the set and not
+clash : (set : List ℕ) (x : ℕ) → ranges.has set x ≡ true → ranges.has set x ≡ false → ⊥
+clash set x h k = false≢true (sym k ∙ h)
 
 -- ---- the start cut up
 
@@ -125,7 +125,7 @@ least-le set start first x p l h = go (leb first x) refl
   where
     go : (b : Bool) → leb first x ≡ b → first ≤ x
     go true q = leb-true first x q
-    go false q = absurd (apart set x x (p .passed x l (leb-false first x q)) h refl)
+    go false q = absurd (clash set x (p .passed x l (leb-false first x q)) h)
 
 -- and what the set fills from the start on ends there or before
 pub filled-le : (set : List ℕ) (start first high : ℕ) → Least set start first → Filled set start high → high ≤ first
@@ -133,7 +133,7 @@ filled-le set start first high p h = go (leb high first) refl
   where
     go : (b : Bool) → leb high first ≡ b → high ≤ first
     go true q = leb-true high first q
-    go false q = absurd (apart set first first (h first (p .above) (leb-false high first q)) (p .out) refl)
+    go false q = absurd (clash set first (h first (p .above) (leb-false high first q)) (p .out))
 
 -- there is one such number only
 pub least-only : (set : List ℕ) (start m n : ℕ) → Least set start m → Least set start n → m ≡ n
@@ -174,12 +174,12 @@ upto end x = leb x end
 
 cut-end-stops : (k : ℕ) (set : List ℕ) (end : ℕ) → count (upto end) set ≤ k → Stops set end (ranges.cut-end k set end)
 unfolding ranges.cut-end
-cut-end-stops zero set end h = stops-here set end (λ q. absurd (false≢true (sym (count-none (upto end) set end h (le-leb end end (omega arith))) ∙ q)))
+cut-end-stops zero set end h = stops-here set end (λ q. absurd (clash set end q (count-none (upto end) set end h (le-leb end end (omega arith)))))
 cut-end-stops (suc k) set end h =
     by-test (Stops set end) (ranges.has set end) (ranges.cut-end k set (end - 1)) end
     (λ q. go q (eqb end 0) refl (λ z. cut-end-stops k set (end - 1)
     (let fewer = count-less (upto end) (upto (end - 1)) (λ x t. le-leb x end (omega (arith, leb-true x (end - 1) t))) set end (le-leb end end (omega arith)) (lt-leb end (end - 1) (omega arith)) q in omega arith)))
-    (λ q. stops-here set end (λ r. absurd (false≢true (sym q ∙ r))))
+    (λ q. stops-here set end (λ r. absurd (clash set end r q)))
   where
     go : ranges.has set end ≡ true → (b : Bool) → eqb end 0 ≡ b → (0 < end → Stops set (end - 1) (ranges.cut-end k set (end - 1))) → Stops set end (ranges.cut-end k set (end - 1))
     go q true z more = rw (eqb-true end 0 z, cut-end-zero k set) (stops-here set 0 (λ r. refl))
@@ -202,15 +202,15 @@ stops-only set end m n p q = omega (arith, stops-ge set end m n p (q .below) (q 
 -- where a number from the start to the end is not in the set, the cutting stops at the greatest such
 greatest : (set : List ℕ) (end last first : ℕ) → Stops set end last → first ≤ end → ranges.has set first ≡ false → Greatest set end last × (first ≤ last)
 greatest set end last first p l h =
-    let n : first ≤ last = stops-ge set end last first p l (λ q. absurd (false≢true (sym h ∙ q))) in
+    let n : first ≤ last = stops-ge set end last first p l (λ q. absurd (clash set first q h)) in
     (record { below = p .below; out = go (ranges.has set last) refl n; passed = p .passed }, n)
   where
     go : (b : Bool) → ranges.has set last ≡ b → first ≤ last → b ≡ false
-    go true q n = let z = p .stop q in absurd (apart set last first q h (omega arith))
+    go true q n = let z = p .stop q in let e : last ≡ first = omega arith in absurd (clash set first (rw e at q) h)
     go false q n = refl
 
 stops-of : (set : List ℕ) (end last : ℕ) → Greatest set end last → Stops set end last
-stops-of set end last g = record { below = g .below; stop = λ q. absurd (false≢true (sym (g .out) ∙ q)); passed = g .passed }
+stops-of set end last g = record { below = g .below; stop = λ q. absurd (clash set last q (g .out)); passed = g .passed }
 
 -- ---- the whole removal
 
@@ -245,14 +245,14 @@ removed-only set r answer (over {start} {end} h) =
     rw (lt-leb first ranges.top l)
   where
     go : (first : ℕ) → Least set start first → (b : Bool) → leb first ranges.top ≡ b → ranges.top < first
-    go first p true q = absurd (apart set first first (h first (p .above) (omega (arith, leb-true first ranges.top q))) (p .out) refl)
+    go first p true q = absurd (clash set first (h first (p .above) (omega (arith, leb-true first ranges.top q))) (p .out))
     go first p false q = leb-false first ranges.top q
 removed-only set r answer (gone {start} {end} {first} p t h) =
     rw (least-only set start (ranges.first-out (length set) set start) first (first-out-is set start) p, le-leb first ranges.top t, lt-ltb end first (go (ltb end first) refl))
   where
     go : (b : Bool) → ltb end first ≡ b → end < first
     go true q = ltb-true end first q
-    go false q = absurd (apart set first first (h first (p .above) (omega (arith, ltb-false end first q))) (p .out) refl)
+    go false q = absurd (clash set first (h first (p .above) (omega (arith, ltb-false end first q))) (p .out))
 removed-only set r answer (cut {start} {end} {first} {last} p t g n) =
     rw (
       least-only set start (ranges.first-out (length set) set start) first (first-out-is set start) p,
@@ -281,7 +281,7 @@ remove-holds r set x h out = go r (ranges.remove r set) (removed set r) (in-of r
     go : (r : Range) (answer : Bounded) → Removed set r answer → In r x → holds-bounded answer x
     go r answer nothing i = absurd i
     go r answer (over p) i = tt
-    go r answer (gone p t f) i = absurd (apart set x x (f x (i .0) (omega (arith, i .1))) out refl)
+    go r answer (gone p t f) i = absurd (clash set x (f x (i .0) (omega (arith, i .1))) out)
     go r answer (cut {start} {end} {first} {last} p t g n) i =
-        of-in (Span first (At last)) x (least-le set start first x p (i .0) out, stops-ge set end last x (stops-of set end last g) (i .1) (λ q. absurd (false≢true (sym out ∙ q))))
+        of-in (Span first (At last)) x (least-le set start first x p (i .0) out, stops-ge set end last x (stops-of set end last g) (i .1) (λ q. absurd (clash set x q out)))
     go r answer (endless {start} {first} p t) i = of-in (Span first Open) x (least-le set start first x p (i .0) out, tt)

@@ -1,11 +1,10 @@
 -- What one walk over a set does to a number: it passes only numbers of the set, and changes nothing only where there is nothing to pass.
-use mathlib.Core.Path.{_≡_, refl, sym, ap, _∙_}
+use mathlib.Core.Path.{_≡_, refl}
 use mathlib.Core.Bool.{Bool, true, false, cond, false≢true}
 use mathlib.Core.List.{List, [], _∷_}
-use Prim.Native.Nat.{ℕ, _+_, _-_, _≤_, _<_}
+use Prim.Native.Nat.{ℕ, _+_, _-_, _≤_}
 use native.Mathlib.Omega.{arith}
 use lib.Dec.{eqb}
-use borrow.Author.Tests.{eqb-true, eqb-false}
 use Rattle.ranges.specs.Ranges as ranges
 use Rattle.ranges.specs.Removal.{Filled}
 use Rattle.ranges.specs.Walks.{raised, lowered}

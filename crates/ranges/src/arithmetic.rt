@@ -2,6 +2,7 @@
 use crate::Bounded;
 use crate::End;
 use crate::Range;
+use crate::TOP;
 ghost use mathlib.Core.Path.{_≡_};
 ghost use Prim.Native.Nat.{_+_, _-_, _*_, min as least};
 ghost use Rattle.ranges.specs.Ranges.{top, sum-ends, sum, times-end, times, less-end, less};
@@ -11,13 +12,14 @@ fn add(a: u32, b: u32) -> u32
     ensures { λ r. ⌜ r ≡ least (a + b) top ⌝ }
 {
     let total = a as u64 + b as u64;
-    if total <= 4294967295 {
+    if total <= TOP {
         total as u32
     } else {
-        4294967295
+        TOP as u32
     }
 }
 
+// The sum of two ends: none when over or when either is none.
 fn sum_ends(a: End, b: End) -> End
     ensures { λ r. ⌜ r ≡ sum-ends a b ⌝ }
 {
@@ -25,7 +27,7 @@ fn sum_ends(a: End, b: End) -> End
         End::At(x) => match b {
             End::At(y) => {
                 let total = x as u64 + y as u64;
-                if total <= 4294967295 {
+                if total <= TOP {
                     End::At(total as u32)
                 } else {
                     End::Open
@@ -37,6 +39,7 @@ fn sum_ends(a: End, b: End) -> End
     }
 }
 
+// Starts add and stay at 4294967295 when over, ends add and give none when over; Empty with x gives x.
 pub fn sum(a: Range, b: Range) -> Range
     ensures { λ r. ⌜ r ≡ sum a b ⌝ }
 {
@@ -56,13 +59,14 @@ fn product(a: u32, b: u32) -> u64
     a as u64 * b as u64
 }
 
+// A range whose start is multiplied already, with its end times c.
 fn times_end(start: u32, end: End, c: u32) -> Bounded
     ensures { λ r. ⌜ r ≡ times-end start end c ⌝ }
 {
     match end {
         End::At(x) => {
             let last = product(x, c);
-            if last <= 4294967295 {
+            if last <= TOP {
                 Bounded::Is(Range::Span(start, End::At(last as u32)))
             } else {
                 Bounded::Over
@@ -72,6 +76,7 @@ fn times_end(start: u32, end: End, c: u32) -> Bounded
     }
 }
 
+// Start and end times c; over 4294967295 there is no range.
 pub fn times(range: Range, c: u32) -> Bounded
     ensures { λ r. ⌜ r ≡ times range c ⌝ }
 {
@@ -79,7 +84,7 @@ pub fn times(range: Range, c: u32) -> Bounded
         Range::Empty => Bounded::Is(Range::Empty),
         Range::Span(start, end) => {
             let first = product(start, c);
-            if first <= 4294967295 {
+            if first <= TOP {
                 times_end(first as u32, end, c)
             } else {
                 Bounded::Over
@@ -95,6 +100,7 @@ fn subtract(a: u32, b: u32) -> u32
     if b <= a { a - b } else { 0 }
 }
 
+// An end less c.
 fn less_end(end: End, c: u32) -> End
     ensures { λ r. ⌜ r ≡ less-end end c ⌝ }
 {
@@ -104,6 +110,7 @@ fn less_end(end: End, c: u32) -> End
     }
 }
 
+// Start and end less c, never below 0.
 pub fn less(range: Range, c: u32) -> Range
     ensures { λ r. ⌜ r ≡ less range c ⌝ }
 {

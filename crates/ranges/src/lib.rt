@@ -18,6 +18,9 @@ pub enum Range {
     Span(u32, End),
 }
 
+// The largest number that a range's start and end can be.
+pub const TOP: u64 = 4294967295;
+
 // A range, or that a number passed 4294967295 on the way to it.
 pub enum Bounded {
     Is(Range),
@@ -36,24 +39,28 @@ fn max(a: u32, b: u32) -> u32
     if a <= b { b } else { a }
 }
 
+// [x,x].
 pub fn point(x: u32) -> Range
     ensures { λ r. ⌜ r ≡ point x ⌝ }
 {
     Range::Span(x, End::At(x))
 }
 
+// [0,0].
 pub fn zero() -> Range
     ensures { λ r. ⌜ r ≡ point 0 ⌝ }
 {
     point(0)
 }
 
+// [0,–).
 pub fn naturals() -> Range
     ensures { λ r. ⌜ r ≡ naturals ⌝ }
 {
     Range::Span(0, End::Open)
 }
 
+// Whether the range has no value.
 pub fn is_empty(range: Range) -> bool
     ensures { λ r. ⌜ r ≡ is-empty range ⌝ }
 {
@@ -63,6 +70,7 @@ pub fn is_empty(range: Range) -> bool
     }
 }
 
+// Whether the start is over the end, which a caller's range can be and an answer never is.
 pub fn crossed(range: Range) -> bool
     ensures { λ r. ⌜ r ≡ crossed range ⌝ }
 {
@@ -75,6 +83,7 @@ pub fn crossed(range: Range) -> bool
     }
 }
 
+// The higher end.
 fn join_ends(a: End, b: End) -> End
     ensures { λ r. ⌜ r ≡ join-ends a b ⌝ }
 {
@@ -87,6 +96,7 @@ fn join_ends(a: End, b: End) -> End
     }
 }
 
+// The lower start and the higher end; Empty with x gives x.
 pub fn join(a: Range, b: Range) -> Range
     ensures { λ r. ⌜ r ≡ join a b ⌝ }
 {
@@ -99,6 +109,7 @@ pub fn join(a: Range, b: Range) -> Range
     }
 }
 
+// Whether the first end lies within the second.
 fn within_ends(a: End, b: End) -> bool
     ensures { λ r. ⌜ r ≡ within-ends a b ⌝ }
 {
@@ -111,6 +122,7 @@ fn within_ends(a: End, b: End) -> bool
     }
 }
 
+// Whether every value of the first range is one of the second.
 pub fn within(a: Range, b: Range) -> bool
     ensures { λ r. ⌜ r ≡ within a b ⌝ }
 {
@@ -129,6 +141,7 @@ pub fn within(a: Range, b: Range) -> bool
     }
 }
 
+// Whether the two ends are equal.
 fn same_ends(a: End, b: End) -> bool
     ensures { λ r. ⌜ r ≡ same-ends a b ⌝ }
 {
@@ -144,6 +157,7 @@ fn same_ends(a: End, b: End) -> bool
     }
 }
 
+// Whether the two ranges are equal.
 pub fn same(a: Range, b: Range) -> bool
     ensures { λ r. ⌜ r ≡ same a b ⌝ }
 {
@@ -165,6 +179,7 @@ pub fn same(a: Range, b: Range) -> bool
     }
 }
 
+// An end that does not hold the new one becomes none.
 fn widen_ends(old: End, new: End) -> End
     ensures { λ r. ⌜ r ≡ widen-ends old new ⌝ }
 {
@@ -175,6 +190,7 @@ fn widen_ends(old: End, new: End) -> End
     }
 }
 
+// A start above the new one becomes 0, and an end that does not hold the new one becomes none.
 pub fn widen(old: Range, new: Range) -> Range
     ensures { λ r. ⌜ r ≡ widen old new ⌝ }
 {

@@ -2,13 +2,16 @@
 use crate::Bounded;
 use crate::End;
 use crate::Range;
+use crate::TOP;
 use crate::join;
+use crate::point;
 ghost use mathlib.Core.Path.{_≡_};
 ghost use Prim.Native.Nat.{_+_, _-_, _<_, _^_};
 ghost use lib.ListN.{length};
 ghost use Rattle.ranges.specs.Ranges.{holds-end, holds, around, retain, first-out, cut-end, remove-end, remove};
 ghost use Rattle.ranges.specs.Walks.{raised, lowered};
 
+// Whether x does not pass the end.
 fn holds_end(end: End, x: u64) -> bool
     ensures { λ r. ⌜ r ≡ holds-end end x ⌝ }
 {
@@ -18,6 +21,7 @@ fn holds_end(end: End, x: u64) -> bool
     }
 }
 
+// Whether x is one of the range's values.
 pub fn holds(range: Range, x: u64) -> bool
     ensures { λ r. ⌜ r ≡ holds range x ⌝ }
 {
@@ -33,16 +37,18 @@ pub fn holds(range: Range, x: u64) -> bool
     }
 }
 
+// The smallest range that has x.
 fn around(x: u64) -> Range
     ensures { λ r. ⌜ r ≡ around x ⌝ }
 {
-    if x <= 4294967295 {
-        Range::Span(x as u32, End::At(x as u32))
+    if x <= TOP {
+        point(x as u32)
     } else {
-        Range::Span(4294967295, End::Open)
+        Range::Span(TOP as u32, End::Open)
     }
 }
 
+// The smallest and largest of the values inside the range, or Empty.
 pub fn retain(range: Range, values: &[u64]) -> Range
     ensures { λ r. ⌜ r ≡ retain range (now (values .entry)) ⌝ }
 {
@@ -58,7 +64,7 @@ pub fn retain(range: Range, values: &[u64]) -> Range
     kept
 }
 
-// One walk from the first value on. A caller's x is at most 4294967295 and as many steps more as there are values.
+// One walk from the first value on: x steps up past each value that it equals. The requires keeps the steps within a u64.
 fn raised(values: &[u64], x: u64) -> u64
     requires { ⌜ x + length (now values) < 2 ^ 64 ⌝ }
     ensures { λ r. ⌜ r ≡ raised (now (values .entry)) x ⌝ }
@@ -81,7 +87,7 @@ fn before(x: u64) -> u64
     if 0 < x { x - 1 } else { 0 }
 }
 
-// One walk from the last value back.
+// One walk from the last value back: x steps down past each value that it equals.
 fn lowered(values: &[u64], x: u64) -> u64
     ensures { λ r. ⌜ r ≡ lowered (now (values .entry)) x ⌝ }
 {
@@ -96,7 +102,7 @@ fn lowered(values: &[u64], x: u64) -> u64
     down
 }
 
-// A walk that changes nothing has met no value that equals the start.
+// The start cut up until it is not in the set: sorted values take two walks, since a walk goes on while the next value follows.
 fn first_out(values: &[u64], start: u32) -> u64
     ensures { λ r. ⌜ r ≡ first-out (length (now (values .entry))) (now (values .entry)) start ⌝ }
 {
@@ -110,6 +116,7 @@ fn first_out(values: &[u64], start: u32) -> u64
     }
 }
 
+// The end cut down until it is not in the set.
 fn cut_end(values: &[u64], end: u32) -> u32
     ensures { λ r. ⌜ r ≡ cut-end (length (now (values .entry))) (now (values .entry)) end ⌝ }
 {
@@ -123,6 +130,7 @@ fn cut_end(values: &[u64], end: u32) -> u32
     }
 }
 
+// What is left from a start on that is not in the set.
 fn remove_end(start: u32, end: End, values: &[u64]) -> Range
     ensures { λ r. ⌜ r ≡ remove-end start end (now (values .entry)) ⌝ }
 {
@@ -137,6 +145,7 @@ fn remove_end(start: u32, end: End, values: &[u64]) -> Range
     }
 }
 
+// The range cut at both ends until neither is in the set, or Empty; over if the start would pass 4294967295.
 pub fn remove(range: Range, values: &[u64]) -> Bounded
     ensures { λ r. ⌜ r ≡ remove range (now (values .entry)) ⌝ }
 {
@@ -144,7 +153,7 @@ pub fn remove(range: Range, values: &[u64]) -> Bounded
         Range::Empty => Bounded::Is(Range::Empty),
         Range::Span(start, end) => {
             let first = first_out(values, start);
-            if first <= 4294967295 {
+            if first <= TOP {
                 Bounded::Is(remove_end(first as u32, end, values))
             } else {
                 Bounded::Over

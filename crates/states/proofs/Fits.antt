@@ -21,6 +21,7 @@ use Rattle.states.proofs.Cells.{cell-at, at, each-at, each-rest, each-l
 abbrev pub state : Bool → List Cell → State
 state b cs = record { live = b; cells = cs }
 
+-- cells that no variable has are [0,0]
 pub blank-at : (m v : ℕ) → at (replicate m states.blank) v ≡ ranges.point 0
 blank-at zero v = refl
 blank-at (suc m) zero = refl
@@ -43,6 +44,8 @@ module _ (n : ℕ) where
           here : (b : Bool) (v : ℕ) → ltb v n ≡ b → at cs v ≡ at ds v
           here true v q = e refl v (ltb-true v n q)
           here false v q = f .rest v (ltb-false v n q) ∙ sym (g .rest v (ltb-false v n q))
+
+-- ---- the operations give states of n variables
 
 module _ (n : ℕ) (small : n ≤ 64) where
   pub fit-put : (s : State) (v : ℕ) (r : Range) → v < n → Fit n s → Fit n (states.put s v r)

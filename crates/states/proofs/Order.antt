@@ -15,6 +15,7 @@ use Rattle.states.specs.States as states
 use Rattle.states.specs.States.{Fit}
 use Rattle.states.proofs.Cells.{cell-at, at, each-at, every-at, every-make}
 use Rattle.states.proofs.Fits.{state, alike, fit-join}
+use Rattle.states.proofs.Proper.{Proper}
 
 module _ (n : ℕ) (small : n ≤ 64) where
   -- ---- same is equality
@@ -54,7 +55,7 @@ module _ (n : ℕ) (small : n ≤ 64) where
       go true true cs ds f g = (λ h l. (refl, λ v k. every-at states.within-cells n v cs ds h k (omega arith) (omega arith)), λ h. every-make states.within-cells n cs ds (h refl .1))
 
   -- the same in values, where each start is at most its end
-  pub within-holds : (s t : State) → Fit n s → Fit n t → ((v : ℕ) → v < n → laws.Proper (states.get s v)) →
+  pub within-holds : (s t : State) → Fit n s → Fit n t → Proper n s →
       (states.within n s t ≡ true)
       ↔ (s .live ≡ true → (t .live ≡ true) × ((v : ℕ) → v < n → (x : ℕ) → ranges.holds (states.get s v) x ≡ true → ranges.holds (states.get t v) x ≡ true))
   within-holds s t f g proper = (
@@ -140,9 +141,11 @@ module _ (n : ℕ) (small : n ≤ 64) where
       go true false cs ds f g a b = a
       go true true cs ds f g a b = within-says (states.join n (states.live cs) (states.live ds)) u (fit-join n small (states.live cs) (states.live ds) f g) h .1 (λ l.
           let p = within-says (states.live cs) u f h .0 a refl in
-          let q = within-says (states.live ds) u g h .0 b refl in
-          (p .0, λ v k. subst (λ (r : Range). ranges.within r (states.get u v) ≡ true) (sym (made states.join-cells cs ds (f .long) (g .long) v k))
-          (laws.join-least (at cs v) (at ds v) (states.get u v) (p .1 v k) (q .1 v k))))
+          let q = within-says (states.live ds) u g h .0 b refl in (
+            p .0,
+            λ v k. subst (λ (r : Range). ranges.within r (states.get u v) ≡ true) (sym (made states.join-cells cs ds (f .long) (g .long) v k))
+                (laws.join-least (at cs v) (at ds v) (states.get u v) (p .1 v k) (q .1 v k)),
+          ))
 
   pub join-comm : (s t : State) → Fit n s → Fit n t → states.join n s t ≡ states.join n t s
   join-comm s t f g = within-antisym (states.join n s t) (states.join n t s) (fit-join n small s t f g) (fit-join n small t s g f)

@@ -12,7 +12,6 @@ use lib.ListN.{length, getD, take, drop, set, replicate, length-append, length-r
 use lib.Seq.{take-suc, drop-cons, append-snoc, set-at, length-take-le, getD-take, getD-append-add}
 use Rattle.ranges.specs.declared.Range.{Range}
 use Rattle.ranges.specs.Ranges as ranges
-use Rattle.ranges.proofs.Laws as laws
 use Rattle.states.specs.declared.State.{State}
 use Rattle.states.specs.declared.Cell.{Cell}
 use Rattle.states.specs.States as states
@@ -21,6 +20,7 @@ use Rattle.states.specs.Answers.{Answer, Gives, Refuses}
 use Rattle.states.specs.Starts as starts
 use Rattle.states.proofs.Cells.{at}
 use Rattle.states.proofs.Fits.{blank-at, fit-empty}
+use Rattle.states.proofs.Proper.{Proper, empty-proper}
 use Rattle.states.proofs.Sure.{Sure, given, refused}
 
 -- one more of the caller's cells taken over
@@ -155,12 +155,12 @@ module _ (n : ℕ) (small : n ≤ 64) (cs : List Cell) (enough : n ≤ length cs
 -- what `started` gives is a state of n variables, and each of its ranges has its start at most at its end
 pub record Begun (n : ℕ) (s : State) : Type 0 where
   pub fit : Fit n s
-  pub proper : (v : ℕ) → v < n → laws.Proper (states.get s v)
+  pub proper : Proper n s
 
 said-begun : (n : ℕ) (cs : List Cell) → length cs ≡ 64 → (a : Answer State) → Said n cs a → Sure (Begun n) a
 said-begun n cs long a (too-many h) = refused
 said-begun n cs long a (lowest v small h q low) = refused
-said-begun n cs long a (one-empty v small proper h e) = given (record { fit = fit-empty n; proper = λ w k. rw (blank-at 64 w) })
+said-begun n cs long a (one-empty v small proper h e) = given (record { fit = fit-empty n; proper = empty-proper n })
 said-begun n cs long a (as-given small proper filled) = given (record {
   fit = first-fit n small cs (omega arith) filled;
   proper = λ w k. rw (first-at n small cs (omega arith) w k) (proper w k);

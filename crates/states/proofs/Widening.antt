@@ -46,7 +46,7 @@ widen-left-lt (suc n) (c ∷ cs) (d ∷ ds) a full h = go (ranges.within (d .ran
     go false q more = omega (arith, laws.widen-lt (c .range) (d .range) (full 0 (omega arith)) q, widen-left-le n cs ds)
 
 module _ (n : ℕ) (small : n ≤ 64) where
-  -- what a state has left
+  -- of a state
   pub left-of : State → ℕ
   left-of s = left n (s .cells)
 
@@ -54,6 +54,7 @@ module _ (n : ℕ) (small : n ≤ 64) where
   unfolding left-of
   left-bound s = left-le n (s .cells)
 
+  -- a pass that does not stop leaves less
   pub widen-falls : (s t : State) → Fit n s → s .live ≡ true → states.within n t s ≡ false → left-of (states.widen n s t) < left-of s
   unfolding left-of
   widen-falls s t f = go (s .live) (t .live) (s .cells) (t .cells) f

@@ -1,5 +1,4 @@
 -- `ranges::crossed` meets its contract: each answer is the definition at the case that was matched.
-use mathlib.Core.Path.{refl}
 use borrow.Author.Needs.{needs}
 use Rattle.ranges.proofs.crossed.Statement.{statement}
 use Rattle.ranges.proofs.crossed.Tie as tie

@@ -1,5 +1,4 @@
 -- `ranges::join` meets its contract: each answer is the definition at the cases that were matched.
-use mathlib.Core.Path.{refl}
 use borrow.Author.Needs.{needs}
 use Rattle.ranges.proofs.join.Statement.{statement}
 use Rattle.ranges.proofs.join.Tie as tie

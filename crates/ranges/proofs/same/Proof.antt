@@ -1,6 +1,5 @@
 -- `ranges::same` meets its contract: each answer is the definition at the cases that were matched and the test of the starts.
 use borrow.Author.Tests.{eq-eqb, ne-eqb}
-use mathlib.Core.Path.{refl}
 use borrow.Author.Needs.{needs}
 use Rattle.ranges.proofs.same.Statement.{statement}
 use Rattle.ranges.proofs.same.Tie as tie

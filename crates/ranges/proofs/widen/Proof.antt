@@ -1,6 +1,5 @@
 -- `ranges::widen` meets its contract: each answer is the definition at the cases that were matched and the test of the starts.
 use borrow.Author.Tests.{le-leb, lt-leb}
-use mathlib.Core.Path.{refl}
 use borrow.Author.Needs.{needs}
 use Rattle.ranges.proofs.widen.Statement.{statement}
 use Rattle.ranges.proofs.widen.Tie as tie

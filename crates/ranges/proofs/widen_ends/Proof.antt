@@ -1,5 +1,4 @@
 -- `ranges::widen_ends` meets its contract: each answer is the definition at what `within_ends` said.
-use mathlib.Core.Path.{refl}
 use borrow.Author.Needs.{needs}
 use Rattle.ranges.proofs.widen_ends.Statement.{statement}
 use Rattle.ranges.proofs.widen_ends.Tie as tie

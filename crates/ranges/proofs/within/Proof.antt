@@ -1,6 +1,5 @@
 -- `ranges::within` meets its contract: each answer is the definition at the cases that were matched and the test of the starts.
 use borrow.Author.Tests.{le-leb, lt-leb}
-use mathlib.Core.Path.{refl}
 use borrow.Author.Needs.{needs}
 use Rattle.ranges.proofs.within.Statement.{statement}
 use Rattle.ranges.proofs.within.Tie as tie

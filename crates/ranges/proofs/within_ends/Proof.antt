@@ -1,5 +1,4 @@
 -- `ranges::within_ends` meets its contract: each answer is the definition at the cases that were matched.
-use mathlib.Core.Path.{refl}
 use borrow.Author.Needs.{needs}
 use Rattle.ranges.proofs.within_ends.Statement.{statement}
 use Rattle.ranges.proofs.within_ends.Tie as tie

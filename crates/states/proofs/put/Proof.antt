@@ -41,7 +41,7 @@ returns-4 : tie.Need-returns-4
 returns-4 c =
     let start = c .before .before .before .before in
     rw (not-false (start .args .t1 .live) (c .before .before .before .if1 .left), c .before .enum-told2 .given .1)
-        (ap states.live (sym (set-out (start .args .t1 .cells) _ _ (omega (arith, state-long (start .args .t1) (start .good .0))))))
+    (ap states.live (sym (set-out (start .args .t1 .cells) _ _ (omega (arith, state-long (start .args .t1) (start .good .0))))))
 
 pub put-spec : {M : Type 1} → statement M
 put-spec = tie.close (tie.spec returns enum-told empty-requires returns-2 enum-told-2 mul-t8 element-set-from-s returns-3 returns-4)

@@ -52,8 +52,8 @@ returns-3 c =
     let s = start .args .t1 in
     let t = start .args .t2 in
     rw (not-false (s .live) (head .before .before .before .if1 .left), not-false (t .live) (head .before .before .if2 .left))
-        (sym (every-not states.within-cells (start .args .n) (head .loop .i) (s .cells) (t .cells) _ _ (omega arith)
-        (omega (arith, state-long s (start .good .0))) (omega (arith, state-long t (start .good .1 .0))) (sym (c .before .within-cells .ensures) ∙ not-true _ (c .if3 .taken))))
+    (sym (every-not states.within-cells (start .args .n) (head .loop .i) (s .cells) (t .cells) _ _ (omega arith)
+    (omega (arith, state-long s (start .good .0))) (omega (arith, state-long t (start .good .1 .0))) (sym (c .before .within-cells .ensures) ∙ not-true _ (c .if3 .taken))))
 
 add-i : tie.Need-add-i Inv-loop μ-loop
 add-i c = omega arith
@@ -78,7 +78,7 @@ returns-4 c =
     let start = head .before .before .before .before in
     let s = start .args .t1 in
     rw (not-false (s .live) (head .before .before .before .if1 .left), not-false (start .args .t2 .live) (head .before .before .if2 .left))
-        (sym (head .loop .inv .1) ∙ every-upto _ _ (start .args .n) (s .cells) _ (omega (arith, state-long s (start .good .0))))
+    (sym (head .loop .inv .1) ∙ every-upto _ _ (start .args .n) (s .cells) _ (omega (arith, state-long s (start .good .0))))
 
 pub within-spec : {M : Type 1} → statement M
 within-spec =

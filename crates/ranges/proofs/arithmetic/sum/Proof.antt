@@ -1,5 +1,4 @@
 -- `ranges::arithmetic::sum` meets its contract: each answer is the definition at the cases that were matched.
-use mathlib.Core.Path.{refl}
 use borrow.Author.Needs.{needs}
 use Rattle.ranges.proofs.arithmetic.sum.Statement.{statement}
 use Rattle.ranges.proofs.arithmetic.sum.Tie as tie

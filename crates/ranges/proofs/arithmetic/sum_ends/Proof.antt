@@ -1,6 +1,5 @@
 -- `ranges::arithmetic::sum_ends` meets its contract: each answer is the definition at the cases that were matched and the test of the sum.
 use borrow.Author.Tests.{le-leb, lt-leb}
-use mathlib.Core.Path.{refl}
 use borrow.Author.Needs.{needs}
 use Rattle.ranges.proofs.arithmetic.sum_ends.Statement.{statement}
 use Rattle.ranges.proofs.arithmetic.sum_ends.Tie as tie

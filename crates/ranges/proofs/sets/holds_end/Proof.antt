@@ -1,5 +1,4 @@
 -- `ranges::sets::holds_end` meets its contract: each answer is the definition at the case that was matched.
-use mathlib.Core.Path.{refl}
 use borrow.Author.Needs.{needs}
 use Rattle.ranges.proofs.sets.holds_end.Statement.{statement}
 use Rattle.ranges.proofs.sets.holds_end.Tie as tie
