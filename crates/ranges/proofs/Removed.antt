@@ -1,5 +1,5 @@
 -- `remove` is what specs/Removal says, for every range and every list of numbers, and that has one answer only.
-use mathlib.Core.Path.{_≡_, refl, sym, ap, _∙_}
+use mathlib.Core.Path.{_≡_, refl, sym, _∙_}
 use mathlib.Core.Bool.{Bool, true, false, cond, false≢true}
 use mathlib.Core.Logic.{_↔_}
 use mathlib.Core.List.{List, [], _∷_}
@@ -99,13 +99,18 @@ least-here set start h = record { above = omega arith; out = h; passed = λ x l 
 least-next : (set : List ℕ) (start first : ℕ) → ranges.has set start ≡ true → Least set (start + 1) first → Least set start first
 least-next set start first h more = record { above = omega arith; out = more .out; passed = filled-front set start first h (more .passed) }
 
+-- a start that is in the set leaves fewer values from the next number on
+fewer-up : (set : List ℕ) (start : ℕ) → ranges.has set start ≡ true → count (leb (start + 1)) set < count (leb start) set
+fewer-up set start q =
+    count-less (leb start) (leb (start + 1)) (λ x t. le-leb start x (omega (arith, leb-true (start + 1) x t))) set start
+    (le-leb start start (omega arith)) (lt-leb (start + 1) start (omega arith)) q
+
 first-out-least : (k : ℕ) (set : List ℕ) (start : ℕ) → count (leb start) set ≤ k → Least set start (ranges.first-out k set start)
 unfolding ranges.first-out
 first-out-least zero set start h = least-here set start (count-none (leb start) set start h (le-leb start start (omega arith)))
 first-out-least (suc k) set start h =
     by-test (Least set start) (ranges.has set start) (ranges.first-out k set (start + 1)) start
-    (λ q. least-next set start (ranges.first-out k set (start + 1)) q (first-out-least k set (start + 1)
-    (let fewer = count-less (leb start) (leb (start + 1)) (λ x t. le-leb start x (omega (arith, leb-true (start + 1) x t))) set start (le-leb start start (omega arith)) (lt-leb (start + 1) start (omega arith)) q in omega arith)))
+    (λ q. least-next set start (ranges.first-out k set (start + 1)) q (first-out-least k set (start + 1) (omega (arith, fewer-up set start q))))
     (λ q. least-here set start q)
 
 -- the start that `remove` cuts up is the least number from it on that is not in the set
@@ -113,7 +118,7 @@ pub first-out-is : (set : List ℕ) (start : ℕ) → Least set start (ranges.fi
 first-out-is set start = first-out-least (length set) set start (count-le (leb start) set)
 
 -- it is at most as many steps up as the set has values
-pub first-out-near : (k : ℕ) (set : List ℕ) (start : ℕ) → ranges.first-out k set start ≤ start + k
+first-out-near : (k : ℕ) (set : List ℕ) (start : ℕ) → ranges.first-out k set start ≤ start + k
 unfolding ranges.first-out
 first-out-near zero set start = omega arith
 first-out-near (suc k) set start =
@@ -127,15 +132,20 @@ least-le set start first x p l h = go (leb first x) refl
     go true q = leb-true first x q
     go false q = absurd (clash set x (p .passed x l (leb-false first x q)) h)
 
--- and what the set fills from the start on ends there or before
-pub filled-le : (set : List ℕ) (start first high : ℕ) → Least set start first → Filled set start high → high ≤ first
+-- what the set fills from the start on ends at the least that is not in it, or before
+filled-le : (set : List ℕ) (start first high : ℕ) → Least set start first → Filled set start high → high ≤ first
 filled-le set start first high p h = go (leb high first) refl
   where
     go : (b : Bool) → leb high first ≡ b → high ≤ first
     go true q = leb-true high first q
     go false q = absurd (clash set first (h first (p .above) (leb-false high first q)) (p .out))
 
--- there is one such number only
+-- so it is no longer than the set has values
+pub filled-near : (set : List ℕ) (start high : ℕ) → Filled set start high → high ≤ start + length set
+filled-near set start high h =
+    omega (arith, filled-le set start (ranges.first-out (length set) set start) high (first-out-is set start) h, first-out-near (length set) set start)
+
+-- there is one least number only
 pub least-only : (set : List ℕ) (start m n : ℕ) → Least set start m → Least set start n → m ≡ n
 least-only set start m n p q = omega (arith, least-le set start m n p (q .above) (q .out), least-le set start n m q (p .above) (p .out))
 
@@ -172,13 +182,18 @@ cut-end-zero (suc k) set = by-test (λ x. x ≡ 0) (ranges.has set 0) (ranges.cu
 abbrev upto : ℕ → ℕ → Bool
 upto end x = leb x end
 
+-- an end that is in the set leaves fewer values up to the number before it
+fewer-down : (set : List ℕ) (end : ℕ) → ranges.has set end ≡ true → 0 < end → count (upto (end - 1)) set < count (upto end) set
+fewer-down set end q z =
+    count-less (upto end) (upto (end - 1)) (λ x t. le-leb x end (omega (arith, leb-true x (end - 1) t))) set end
+    (le-leb end end (omega arith)) (lt-leb end (end - 1) (omega arith)) q
+
 cut-end-stops : (k : ℕ) (set : List ℕ) (end : ℕ) → count (upto end) set ≤ k → Stops set end (ranges.cut-end k set end)
 unfolding ranges.cut-end
 cut-end-stops zero set end h = stops-here set end (λ q. absurd (clash set end q (count-none (upto end) set end h (le-leb end end (omega arith)))))
 cut-end-stops (suc k) set end h =
     by-test (Stops set end) (ranges.has set end) (ranges.cut-end k set (end - 1)) end
-    (λ q. go q (eqb end 0) refl (λ z. cut-end-stops k set (end - 1)
-    (let fewer = count-less (upto end) (upto (end - 1)) (λ x t. le-leb x end (omega (arith, leb-true x (end - 1) t))) set end (le-leb end end (omega arith)) (lt-leb end (end - 1) (omega arith)) q in omega arith)))
+    (λ q. go q (eqb end 0) refl (λ z. cut-end-stops k set (end - 1) (omega (arith, fewer-down set end q z))))
     (λ q. stops-here set end (λ r. absurd (clash set end r q)))
   where
     go : ranges.has set end ≡ true → (b : Bool) → eqb end 0 ≡ b → (0 < end → Stops set (end - 1) (ranges.cut-end k set (end - 1))) → Stops set end (ranges.cut-end k set (end - 1))

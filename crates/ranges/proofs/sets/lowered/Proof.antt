@@ -1,14 +1,14 @@
 -- `ranges::sets::lowered` meets its contract. The invariant: the number stands where the walk back over the values passed takes it.
-use Rattle.ranges.specs.Walks as walks
-use borrow.Author.Tests.{eq-eqb, ne-eqb}
-use lib.Seq.{drop-cons}
-use lib.ListN.{length, getD, drop, drop-of-length-le}
-use lib.Dec.{eqb}
-use native.Mathlib.Omega.{arith}
-use Prim.Native.Nat.{ℕ, suc, _-_, _≤_, _<_}
 use mathlib.Core.List.{List, _∷_}
 use mathlib.Core.Bool.{cond}
 use mathlib.Core.Path.{_≡_, sym, _∙_}
+use Prim.Native.Nat.{ℕ, suc, _-_, _≤_, _<_}
+use native.Mathlib.Omega.{arith}
+use lib.Seq.{drop-cons}
+use lib.ListN.{length, getD, drop, drop-of-length-le}
+use lib.Dec.{eqb}
+use borrow.Author.Tests.{eq-eqb, ne-eqb}
+use Rattle.ranges.specs.Walks as walks
 use Rattle.ranges.proofs.sets.lowered.Statement.{statement}
 use Rattle.ranges.proofs.sets.lowered.Tie as tie
 
@@ -54,7 +54,12 @@ loop-less c = omega arith
 loop-again : tie.Need-loop-again Inv-loop μ-loop
 loop-again c =
     let l = c .before .before .before .before in
-    (omega arith, step-at (c .before .before .before .before .before .before .args .values .now) (l .loop .i) (c .before .before .before .before .before .before .args .x) (l .loop .down) _ (c .before .before .before .loop-test .taken) (l .loop .inv .0) (l .loop .inv .1) (c .before2 .ensures ∙ rw (eq-eqb _ _ (sym (c .before .if1 .taken)))))
+    let args = l .before .before .args in (
+      omega arith,
+      step-at (args .values .now) (l .loop .i) (args .x) (l .loop .down) _
+          (c .before .before .before .loop-test .taken) (l .loop .inv .0) (l .loop .inv .1)
+          (c .before2 .ensures ∙ rw (eq-eqb _ _ (sym (c .before .if1 .taken)))),
+    )
 
 loop-less-2 : tie.Need-loop-less-2 Inv-loop μ-loop
 loop-less-2 c = omega arith
@@ -62,7 +67,12 @@ loop-less-2 c = omega arith
 loop-again-2 : tie.Need-loop-again-2 Inv-loop μ-loop
 loop-again-2 c =
     let l = c .before .before .before in
-    (omega arith, step-at (c .before .before .before .before .before .args .values .now) (l .loop .i) (c .before .before .before .before .before .args .x) (l .loop .down) _ (c .before .before .loop-test .taken) (l .loop .inv .0) (l .loop .inv .1) (rw (ne-eqb _ _ (λ e. c .if1 .left (sym e)))))
+    let args = l .before .before .args in (
+      omega arith,
+      step-at (args .values .now) (l .loop .i) (args .x) (l .loop .down) _
+          (c .before .before .loop-test .taken) (l .loop .inv .0) (l .loop .inv .1)
+          (rw (ne-eqb _ _ (λ e. c .if1 .left (sym e)))),
+    )
 
 returns : tie.Need-returns Inv-loop μ-loop
 returns c =

@@ -1,16 +1,16 @@
 -- `ranges::sets::raised` meets its contract. The invariant: the walk over the values ahead, from where the number stands, gives the answer.
-use Rattle.ranges.specs.Walks as walks
-use borrow.Author.Tests.{eq-eqb, ne-eqb}
-use lib.Seq.{drop-cons}
-use lib.ListN.{length, drop, drop-of-length-le}
-use lib.Dec.{eqb}
-use native.Mathlib.Omega.{arith}
-use native.Mathlib.Numerals.{add-one}
-use Prim.Native.Nat.{ℕ, _+_, _-_, _≤_}
 use mathlib.Core.List.{List, _∷_}
 use mathlib.Core.Bool.{cond}
 use mathlib.Core.Logic.{⊎-elim}
 use mathlib.Core.Path.{_≡_, refl, sym, _∙_}
+use Prim.Native.Nat.{ℕ, _+_, _-_, _≤_}
+use native.Mathlib.Omega.{arith}
+use native.Mathlib.Numerals.{add-one}
+use lib.Seq.{drop-cons}
+use lib.ListN.{length, drop, drop-of-length-le}
+use lib.Dec.{eqb}
+use borrow.Author.Tests.{eq-eqb, ne-eqb}
+use Rattle.ranges.specs.Walks as walks
 use Rattle.ranges.proofs.sets.raised.Statement.{statement}
 use Rattle.ranges.proofs.sets.raised.Tie as tie
 
@@ -47,8 +47,16 @@ loop-again : tie.Need-loop-again Inv-loop μ-loop
 loop-again c =
     let l = c .before .before .before in
     let values = c .before .before .before .before .args .values .now in
-    let cons = drop-cons values (l .loop .i) 0 (c .before .before .loop-test .taken) in
-    (omega arith, ⊎-elim (λ w. omega arith) (λ w. omega arith) (c .if1 .came), rw (l .loop .inv .2, cons, add-one) (step _ _ _ _ (⊎-elim (λ w. w .1 ∙ rw (eq-eqb _ _ (sym (w .0 .taken)))) (λ w. w .1 ∙ rw (ne-eqb _ _ (λ e. w .0 .left (sym e)))) (c .if1 .came))))
+    let cons = drop-cons values (l .loop .i) 0 (c .before .before .loop-test .taken) in (
+      omega arith,
+      ⊎-elim (λ w. omega arith) (λ w. omega arith) (c .if1 .came),
+      rw (l .loop .inv .2, cons, add-one)
+          (step _ _ _ _
+          (⊎-elim
+          (λ w. w .1 ∙ rw (eq-eqb _ _ (sym (w .0 .taken))))
+          (λ w. w .1 ∙ rw (ne-eqb _ _ (λ e. w .0 .left (sym e))))
+          (c .if1 .came))),
+    )
 
 returns : tie.Need-returns Inv-loop μ-loop
 unfolding walks.raised

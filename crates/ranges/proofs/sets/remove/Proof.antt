@@ -1,7 +1,7 @@
 -- `ranges::sets::remove` meets its contract: each answer is the definition at the case that was matched and the test of the start that is left.
-use Rattle.ranges.specs.Ranges as ranges
 use borrow.Author.Tests.{le-leb, lt-leb}
 use borrow.Author.Needs.{needs}
+use Rattle.ranges.specs.Ranges as ranges
 use Rattle.ranges.proofs.sets.remove.Statement.{statement}
 use Rattle.ranges.proofs.sets.remove.Tie as tie
 

@@ -1,7 +1,7 @@
 -- `ranges::sets::remove_end` meets its contract: each answer is the definition at the case that was matched and the test of the start.
-use Rattle.ranges.specs.Ranges as ranges
 use borrow.Author.Tests.{lt-ltb, le-ltb}
 use borrow.Author.Needs.{needs}
+use Rattle.ranges.specs.Ranges as ranges
 use Rattle.ranges.proofs.sets.remove_end.Statement.{statement}
 use Rattle.ranges.proofs.sets.remove_end.Tie as tie
 

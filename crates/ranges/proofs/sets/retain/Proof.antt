@@ -1,17 +1,17 @@
 -- `ranges::sets::retain` meets its contract. The invariant: what is kept so far, joined with what the values ahead give, is the answer.
-use Rattle.ranges.proofs.Lattice.{join-assoc, join-empty}
-use Rattle.ranges.specs.Ranges as ranges
-use Rattle.ranges.specs.declared.Range.the-variants.{Empty}
-use Rattle.ranges.specs.declared.Range.{Range}
-use lib.Seq.{drop-cons}
-use lib.ListN.{length, getD, drop, drop-of-length-le}
-use native.Mathlib.Omega.{arith}
-use native.Mathlib.Numerals.{add-one}
-use Prim.Native.Nat.{ℕ, suc, _-_, _≤_}
 use mathlib.Core.List.{List, _∷_}
 use mathlib.Core.Bool.{Bool, cond}
 use mathlib.Core.Logic.{⊎-elim}
 use mathlib.Core.Path.{_≡_, refl, sym, _∙_}
+use Prim.Native.Nat.{ℕ, suc, _-_, _≤_}
+use native.Mathlib.Omega.{arith}
+use native.Mathlib.Numerals.{add-one}
+use lib.Seq.{drop-cons}
+use lib.ListN.{length, getD, drop, drop-of-length-le}
+use Rattle.ranges.specs.declared.Range.the-variants.{Empty}
+use Rattle.ranges.specs.declared.Range.{Range}
+use Rattle.ranges.specs.Ranges as ranges
+use Rattle.ranges.proofs.Lattice.{join-assoc, join-empty}
 use Rattle.ranges.proofs.sets.retain.Statement.{statement}
 use Rattle.ranges.proofs.sets.retain.Tie as tie
 
@@ -56,8 +56,16 @@ loop-again c =
     let l = c .before .before .before .before in
     let values = c .before .before .before .before .before .before .args .values .now in
     let i = l .loop .i in
-    let cons = drop-cons values i 0 (c .before .before .before .loop-test .taken) in
-    (omega arith, rw (l .loop .inv .1, cons, add-one) (step (c .before .before .before .before .before .before .args .range) (l .loop .kept) (getD values i 0) (drop (suc i) values) (c .before .holds .result) (c .if1 .kept) (c .before .holds .ensures) (⊎-elim (λ w. w .3 ∙ w .2 .ensures ∙ rw (w .0 .taken, w .1 .ensures)) (λ w. w .1 ∙ rw (w .0 .left) (sym (join-empty (l .loop .kept)))) (c .if1 .came))))
+    let cons = drop-cons values i 0 (c .before .before .before .loop-test .taken) in (
+      omega arith,
+      rw (l .loop .inv .1, cons, add-one)
+          (step (l .before .before .args .range) (l .loop .kept) (getD values i 0) (drop (suc i) values) (c .before .holds .result) (c .if1 .kept)
+          (c .before .holds .ensures)
+          (⊎-elim
+          (λ w. w .3 ∙ w .2 .ensures ∙ rw (w .0 .taken, w .1 .ensures))
+          (λ w. w .1 ∙ rw (w .0 .left) (sym (join-empty (l .loop .kept))))
+          (c .if1 .came))),
+    )
 
 returns : tie.Need-returns Inv-loop μ-loop
 unfolding ranges.retain
