@@ -21,7 +21,7 @@ use Rattle.paper.specs.Reader.{Reading, Read, Bad}
 use Rattle.paper.specs.Rules as rules
 use Rattle.paper.specs.Trace as trace
 use Rattle.paper.specs.Answers as answers
-use Rattle.paper.proofs.ReaderSound as reads
+use Rattle.paper.proofs.Reading.{read-is-code}
 use Rattle.words.specs.Words.{checked}
 use Rattle.words.specs.Parts.{Begins, ListWithin, ListIs, StatementIs}
 use Rattle.words.proofs.Parts.{begins-whole, begins-tail, begins-left}
@@ -141,7 +141,7 @@ sound-reads (Bad number place) e = absurd (let z : _≡_ {A = ℕ} 0 1 = cc in o
 pub sound-is : (ws : List ℕ) (n : ℕ) {u : ℕ} → checked (reader.program ws n) ≡ Sound u → Program n ws
 sound-is ws n e =
     let r = sound-reads (reader.program ws n) e in
-    let t = reads.sound ws n (r .2) in
+    let t = read-is-code ws n (r .2) in
     record { tree = r .0; next = r .1; read = r .2; is = t .is; within = record { deep = 16; loops = 3; holds = t .within } }
 
 -- ---- a loop's own entry

@@ -28,9 +28,8 @@ use Rattle.paper.specs.Answers as answers
 use Rattle.paper.specs.Answers.{Outcome}
 use Rattle.paper.specs.Used.{used}
 use Rattle.paper.specs.Promises.{VisitHolds, Dead, Covers, LoopCovers, Certainty}
-use Rattle.paper.proofs.ReaderSound.{Codes, letter, all-at, unless-is}
-use Rattle.paper.proofs.ReaderSound as reads
-use Rattle.paper.proofs.Complete.{unique}
+use Rattle.paper.proofs.Spelled.{Codes, letter, all-at, unless-is}
+use Rattle.paper.proofs.Reading.{read-is-code, code-is-read}
 use Rattle.paper.proofs.Below.{StatementsBelow}
 use Rattle.paper.proofs.Within.{event-below, below}
 use Rattle.paper.proofs.Sure.{Sure, given, refused, sure-then, sure-by, sure-elim, sure-map, sure-of}
@@ -52,14 +51,17 @@ sure-read (Read x i) h = h x i refl
 sure-read (Bad k at) h = refused
 
 abbrev program-of : (ws : List ℕ) (n : ℕ) (p : Statements) (i : ℕ) → reader.program ws n ≡ Read p i → IsProgram n ws
-program-of ws n p i e = let T = reads.sound ws n e in record { tree = p; is = T .is; within = T .within }
+program-of ws n p i e = let T = read-is-code ws n e in record { tree = p; is = T .is; within = T .within }
 
 to-the-end : (ws : List ℕ) (n : ℕ) (p : Statements) (i : ℕ) → reader.program ws n ≡ Read p i → reader.program ws n ≡ Read p (length ws)
-to-the-end ws n p i e = e ∙ ap (λ (j : ℕ). Read p j) (reads.sound ws n e .end)
+to-the-end ws n p i e = e ∙ ap (λ (j : ℕ). Read p j) (read-is-code ws n e .end)
 
 -- two programs that the same words code are one
 only-tree : (ws : List ℕ) (n : ℕ) (p q : IsProgram n ws) → q .tree ≡ p .tree
-only-tree ws n p q = unique n (q .tree) (p .tree) (q .within) (p .within) (sym (q .is) ∙ p .is)
+only-tree ws n p q =
+    let e : Read (q .tree) (length (code.program (q .tree))) ≡ Read (p .tree) (length (code.program (p .tree))) =
+        sym (code-is-read n (q .tree) (q .within)) ∙ ap (λ (l : List ℕ). reader.program l n) (sym (q .is) ∙ p .is) ∙ code-is-read n (p .tree) (p .within) in
+    cc
 
 sure-self : {A : Type 0} (a : Answer A) → Sure (λ x. a ≡ Gives x) a
 sure-self (Gives x) = given refl
@@ -179,8 +181,8 @@ looped-ok ws n cs u long =
     let A : Admitted n cs s = sure-of (admitted-ok ws n u cs long) a in
     sure-then (begins-one ws) (λ _ one.
     sure-read (reader.program ws n) (λ p i e.
-    let lt : StatementsBelow n p = below n (reads.sound ws n e .within) in
-    sure-map (entry (record { n = n; unroll = u }) p s (one p (reads.sound ws n e .is))) (λ l E.
+    let lt : StatementsBelow n p = below n (read-is-code ws n e .within) in
+    sure-map (entry (record { n = n; unroll = u }) p s (one p (read-is-code ws n e .is))) (λ l E.
     let loop : Visit = record { unroll = E .unroll; event = E .event; body = E .body; place = 1; from = s } in
     let good : Good n loop = list-visits (record { n = n; unroll = u }) (A .small) (While (E .unroll) (E .event) (E .body) then done) 1 s loop (subst (StatementsBelow n) (E .is) lt) (A .fit) (in-first (here refl)) in
     let holds : VisitHolds (record { n = n; unroll = u }) loop l = visit-holds (record { n = n; unroll = u }) (A .small) loop l good (E .gave) in

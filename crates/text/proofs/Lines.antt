@@ -18,10 +18,12 @@ use Rattle.states.specs.declared.Cell.{Cell}
 use Rattle.states.specs.declared.State.{State}
 use Rattle.states.specs.Answers.{Answer, Gives, Refuses, answered}
 use Rattle.states.specs.States as states
+use Rattle.states.specs.States.{Fit}
+use Rattle.states.proofs.Fits.{alike}
 use Rattle.text.specs.Answers.{of-answer}
 use Rattle.text.specs.Grammar.{digit-is, both, left, right, many, none, next, DIGIT, int, decimal}
 use Rattle.text.specs.Line.{ascii, digits, to-end, range, further, joined, cell, refusal, line}
-use Rattle.text.specs.Tells.{Told, refuses, nothing, ranges, ranges-of, told, Canonical}
+use Rattle.text.specs.Tells.{Told, refuses, nothing, ranges, ranges-of, told}
 use Rattle.text.proofs.Digits.{writes}
 
 -- ---- numbers: digits read from the front, and what is left behind them
@@ -200,26 +202,11 @@ line-ranges n s t h =
     let r = told-once (s .live) (t .live) (ranges-of n s) (ranges-of n t) (line-told n (Gives s) (Gives t) h) in
     (r .0, λ l v k. sym (get-of n v s k) ∙ ap (λ (rs : List Range). getD rs v (point 0)) (r .1 l) ∙ get-of n v t k)
 
-same-state : (s t : State) → s .live ≡ t .live → s .cells ≡ t .cells → s ≡ t
-same-state s t p q = ap₂ (λ (b : Bool) (cs : List Cell). record { live = b; cells = cs }) p q
-
 -- two different states of n variables print different lines
-pub line-state : (n : ℕ) (s t : State) → Canonical n s → Canonical n t → line n (Gives s) ≡ line n (Gives t) → s ≡ t
-line-state n s t f g h = go (s .live) refl
-  where
-    r : (s .live ≡ t .live) × (s .live ≡ true → (v : ℕ) → v < n → states.get s v ≡ states.get t v)
-    r = line-ranges n s t h
-
-    at : s .live ≡ true → (v : ℕ) → Dec (n ≤ v) → states.get s v ≡ states.get t v
-    at l v (yes k) = f .fit .rest l v k ∙ sym (g .fit .rest (sym (r .0) ∙ l) v k)
-    at l v (no k) = r .1 l v (omega arith)
-
-    go : (b : Bool) → s .live ≡ b → s ≡ t
-    go false l = f .dead l ∙ sym (g .dead (sym (r .0) ∙ l))
-    go true l = same-state s t (r .0) (ext-getD (states.cell (point 0)) (s .cells) (t .cells) (f .fit .long ∙ sym (g .fit .long)) (λ v _. ap states.cell (at l v (decLe n v))))
+pub line-state : (n : ℕ) (s t : State) → Fit n s → Fit n t → line n (Gives s) ≡ line n (Gives t) → s ≡ t
+line-state n s t f g h = let r = line-ranges n s t h in alike n s t f g (r .0) (r .1)
 
 -- an answer as the code has it is printed as that answer
 pub of-answered : (a : Answer State) → of-answer (answered a) ≡ a
-unfolding answered
 of-answered (Gives s) = refl
 of-answered (Refuses number place) = refl

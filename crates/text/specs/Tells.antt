@@ -1,6 +1,5 @@
--- What a line tells of an answer, and the states that it tells apart.
-use mathlib.Core.Path.{_≡_}
-use mathlib.Core.Bool.{false, cond}
+-- What a line tells of an answer.
+use mathlib.Core.Bool.{cond}
 use mathlib.Core.List.{List, map}
 use Prim.Native.Nat.{ℕ}
 use lib.ListN.{take}
@@ -21,8 +20,3 @@ ranges-of n s = map (λ c. c .range) (take n (s .cells))
 abbrev pub told : ℕ → Answer State → Told
 told n (Gives s) = cond (s .live) (ranges (ranges-of n s)) nothing
 told n (Refuses number place) = refuses number place
-
--- A state of n variables in the one form that it has: 64 cells, those from n on [0,0], and all of them where it is empty.
-pub record Canonical (n : ℕ) (s : State) : Type 0 where
-  pub fit : states.Fit n s
-  pub dead : s .live ≡ false → s ≡ states.empty
