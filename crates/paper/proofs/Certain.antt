@@ -114,7 +114,7 @@ analysed-covers ws n cs u t long e = record {
     A = sure-of (admitted-ok ws n u cs long) (S .started)
 
     lt : StatementsBelow n (S .program)
-    lt = below n (reads.sound ws n (S .read) .within)
+    lt = below n (read-is-code ws n (S .read) .within)
 
     T : Post n (Runs (S .program)) (S .start) t
     T = sure-of (list-ok g (A .small) (S .program) 1 (S .start) lt (A .fit)) (S .gave)
