@@ -1,7 +1,6 @@
 -- The answers of this crate in document 01's terms, and what reading and printing leave in the buffer that was lent.
-use mathlib.Core.Path.{_≡_}
-use Prim.Native.Nat.{ℕ}
 use mathlib.Core.List.{List, _++_}
+use Prim.Native.Nat.{ℕ}
 use lib.ListN.{length, drop}
 use Rattle.states.specs.declared.State.{State}
 use Rattle.states.specs.declared.Verdict.{Verdict}
@@ -28,6 +27,7 @@ abbrev pub of-verdict : Verdict → State → Answer State
 of-verdict verdict.Good state = Gives state
 of-verdict (verdict.Refused number place) state = Refuses number place
 
+-- The same of the verdict and the state that the code has side by side.
 abbrev pub of-answer : code.Answer → Answer State
 of-answer answer = of-verdict (answer .verdict) (answer .state)
 
@@ -36,6 +36,7 @@ pub record Outcome : Type 0 where
   pub answer : Answer ℕ
   pub buffer : List ℕ
 
+-- These two.
 abbrev pub leaves : Answer ℕ → List ℕ → Outcome
 leaves answer buffer = record { answer = answer; buffer = buffer }
 

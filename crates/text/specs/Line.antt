@@ -1,9 +1,9 @@
 -- The line that the program prints, byte by byte.
 use mathlib.Core.Path.{_≡_}
-use mathlib.Core.Bool.{Bool, true, false, cond}
+use mathlib.Core.Bool.{true, false, cond}
 use mathlib.Core.List.{List, [], _∷_, _++_, map}
 use Prim.Native.Nat.{ℕ, zero, suc, _+_, _/_, _%_}
-use Prim.Native.Char.{Char, code}
+use Prim.Native.Char.{code}
 use Prim.Native.String.{String, [] as nothing, _∷_ as _before_}
 use lib.Dec.{ltb, eqb}
 use lib.ListN.{length, take}
@@ -57,10 +57,11 @@ unfoldable pub joined : List (List ℕ) → List ℕ
 joined [] = []
 joined (x ∷ l) = x ++ further l
 
--- "the ranges in order" of the first n cells, or of all where n is more than there are
+-- A variable's range.
 abbrev pub cell : Cell → List ℕ
 cell c = range (c .range)
 
+-- "the ranges in order" of the first n cells, or of all where n is more than there are
 abbrev pub ranges : ℕ → List Cell → List ℕ
 ranges n cells = joined (map cell (take n cells))
 
@@ -72,6 +73,7 @@ state n s = cond (s .live) (ranges n (s .cells)) (ascii "empty")
 abbrev pub refusal : ℕ → ℕ → List ℕ
 refusal number place = ascii "refused " ++ digits number ++ ascii " at " ++ digits place
 
+-- The line without its line feed.
 abbrev pub body : ℕ → Answer State → List ℕ
 body n (Gives s) = state n s
 body n (Refuses number place) = refusal number place

@@ -14,9 +14,11 @@ pub data Told : Type 0 where
   nothing : Told
   ranges : List Range → Told
 
+-- The ranges of the first n variables.
 abbrev pub ranges-of : ℕ → State → List Range
 ranges-of n s = map (λ c. c .range) (take n (s .cells))
 
+-- What the line of an answer tells, for n variables.
 abbrev pub told : ℕ → Answer State → Told
 told n (Gives s) = cond (s .live) (ranges (ranges-of n s)) nothing
 told n (Refuses number place) = refuses number place
