@@ -60,7 +60,7 @@ to-the-end ws n p i e = e ∙ ap (λ (j : ℕ). Read p j) (read-is-code ws n e .
 only-tree : (ws : List ℕ) (n : ℕ) (p q : IsProgram n ws) → q .tree ≡ p .tree
 only-tree ws n p q =
     let e : Read (q .tree) (length (code.program (q .tree))) ≡ Read (p .tree) (length (code.program (p .tree))) =
-        sym (code-is-read n (q .tree) (q .within)) ∙ ap (λ (l : List ℕ). reader.program l n) (sym (q .is) ∙ p .is) ∙ code-is-read n (p .tree) (p .within) in
+    sym (code-is-read n (q .tree) (q .within)) ∙ ap (λ (l : List ℕ). reader.program l n) (sym (q .is) ∙ p .is) ∙ code-is-read n (p .tree) (p .within) in
     cc
 
 sure-self : {A : Type 0} (a : Answer A) → Sure (λ x. a ≡ Gives x) a
