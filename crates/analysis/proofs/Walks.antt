@@ -1,8 +1,8 @@
 -- The ways of the walk's functions, put together at the places that the code has.
 use mathlib.Core.Path.{_≡_, refl, sym, ap, _∙_, subst}
-use mathlib.Core.Bool.{Bool, true, false, cond}
-use mathlib.Core.List.{List, []}
-use Prim.Native.Nat.{ℕ, suc, _+_, _-_, _*_, _<_, _≤_}
+use mathlib.Core.Bool.{true, false, cond}
+use mathlib.Core.List.{List}
+use Prim.Native.Nat.{ℕ, _+_, _-_, _<_, _≤_}
 use native.Mathlib.Omega.{arith}
 use lib.ListN.{length, getD, take, drop, set}
 use Rattle.ranges.specs.declared.Bounded.the-variants.{Is, Over}
@@ -10,26 +10,24 @@ use Rattle.ranges.specs.declared.Range.{Range}
 use Rattle.states.specs.declared.State.{State}
 use Rattle.states.specs.declared.Verdict.the-variants.{Good, Refused}
 use Rattle.states.specs.declared.Answer as code-answer
-use Rattle.states.specs.Answers.{Answer, Gives, Refuses, answered}
+use Rattle.states.specs.Answers.{Gives, Refuses, answered}
 use Rattle.states.specs.States as states
 use Rattle.paper.specs.Code as code
 use Rattle.paper.specs.Rules as rules
 use Rattle.paper.specs.Rules.{Setting}
-use Rattle.paper.specs.Trace as trace
-use Rattle.paper.specs.Tree.{Unroll, Event, Statement, IfThenElse, While, Fail, Normalize, Statements, done, _then_}
-use Rattle.words.specs.Parts.{Begins, ListWithin, StatementWithin, StatementIs, ListIs}
+use Rattle.paper.specs.Tree.{Event, Statement, IfThenElse, Fail, Statements, _then_}
+use Rattle.words.specs.Parts.{Begins, ListWithin, StatementWithin, StatementIs}
 use Rattle.words.proofs.Parts.{begins-whole, begins-at, begins-tail, part-is}
-use Rattle.words.proofs.Nodes.{NextAt, next-here, statement-kind, fail-here, done-here, statement-some, statement-ends}
+use Rattle.words.proofs.Nodes.{NextAt, next-here, statement-kind, fail-here, done-here, statement-ends}
 use Rattle.words.proofs.Bounds.{next-bounds}
 use Rattle.events.specs.declared.Sides.{Sides}
 use Rattle.events.specs.Sided.{sided}
 use Rattle.events.proofs.Steps.{sides-given, sides-refused}
-use Rattle.analysis.specs.declared.Pass.{Pass}
 use Rattle.analysis.specs.Outcomes.{passed}
 use Rattle.analysis.specs.Noted as noted
 use Rattle.analysis.specs.Noted.{Noted, Says}
 use Rattle.analysis.specs.Plain as plain
-use Rattle.analysis.proofs.Says.{Leads, leads-self, leads-then, leads-by}
+use Rattle.analysis.proofs.Says.{Leads, leads-self, leads-then}
 use Rattle.analysis.proofs.Steps as steps
 use Rattle.analysis.proofs.Turns as turns
 use Rattle.analysis.proofs.Plains.{plain-kind, plain-long, begins-kind, begins-target}
