@@ -2,7 +2,7 @@
 use mathlib.Core.List.{List}
 use mathlib.Core.Bool.{true}
 use mathlib.Core.Path.{_≡_, refl, ap, sym, _∙_, subst}
-use Prim.Native.Nat.{suc, _+_, _-_, _≤_, _*_, ℕ, _<_}
+use Prim.Native.Nat.{_^_, suc, _+_, _-_, _≤_, _*_, ℕ, _<_}
 use native.Mathlib.Omega.{arith}
 use lib.ListN.{length, take, drop, getD, length-set}
 use borrow.Author.Needs.{needs}
@@ -230,6 +230,20 @@ abbrev unrolled-claims : ℕ → unrolled-lts.Claims
 unrolled-claims t =
     (empty-reads.Asked, empty-reads.Learnt, pass-below t, pass.Post, join-reads.Asked, join-reads.Learnt, went-reads.Asked, went-reads.Learnt)
 
+-- words that stand at base in a program, with a mark for each: their places and their bytes are numbers of 64 bits
+abbrev Room : ℕ → List ℕ → List ℕ → Type 0
+Room base words marks = (base + length words ≤ length marks) × ((length words * 8 < 2 ^ 64) × (base + length words < 2 ^ 64))
+
+-- where the then-list and the else-list of an if stand, within the words and the marks
+branch-room : (t : ℕ) (c : branch-lts.After-list-end (branch-claims t) (branch-at t) branch.Post) →
+    (1 < c .before .event-end .result) × ((c .before .event-end .result < c .list-end .result) × ((c .list-end .result < length (c .before .before .before .before .args .words .now)) ×
+    (Room (c .before .before .before .before .args .base) (c .before .before .before .before .args .words .now) (c .before .before .before .before .args .marks .now))))
+branch-room t c =
+    let s = c .before .before .before .before in
+    let p = s .pre .1 .0 in
+    let k = branch-cut (s .args .words .now) (p .tree) (p .is) (s .pre .1 .1 .0) (c .before .event-end .result) (c .before .event-end .ensures) (c .list-end .result) (c .list-end .ensures) in
+    (k .some, (omega (arith, k .q-is), (omega (arith, k .whole), (s .pre .1 .1 .1 .1 .1, (omega (arith, s .good .0 .0, s .good .0 .1), omega (arith, s .pre .1 .1 .1 .1 .1, s .good))))))
+
 branch-event-end-requires : (t : ℕ) → branch-lts.Need-event-end-requires (branch-claims t) (branch-at t) branch.Post
 branch-event-end-requires t c κs =
     let s = c .before .before in
@@ -241,32 +255,16 @@ branch-list-end-requires t c κs =
     branch-then (s .args .words .now) (s .pre .1 .0 .tree) (s .pre .1 .0 .is) (s .pre .1 .1 .0) (c .event-end .result) (c .event-end .ensures)
 
 branch-sub-sides : (t : ℕ) → branch-lts.Need-sub-sides (branch-claims t) (branch-at t) branch.Post
-branch-sub-sides t c =
-    let s = c .before .before .before .before in
-    let p = s .pre .1 .0 in
-    let k = branch-cut (s .args .words .now) (p .tree) (p .is) (s .pre .1 .1 .0) (c .before .event-end .result) (c .before .event-end .ensures) (c .list-end .result) (c .list-end .ensures) in
-    omega (arith, k .some, k .p-is, k .q-is, k .whole, s .good .0 .0, s .good .0 .1, s .pre .1 .1 .1 .1 .1)
+branch-sub-sides t c = omega (arith, branch-room t c)
 
 branch-part-sides-start : (t : ℕ) → branch-lts.Need-part-sides-start (branch-claims t) (branch-at t) branch.Post
-branch-part-sides-start t c =
-    let s = c .before .before .before .before in
-    let p = s .pre .1 .0 in
-    let k = branch-cut (s .args .words .now) (p .tree) (p .is) (s .pre .1 .1 .0) (c .before .event-end .result) (c .before .event-end .ensures) (c .list-end .result) (c .list-end .ensures) in
-    omega (arith, k .some, k .p-is, k .q-is, k .whole, s .good .0 .0, s .good .0 .1, s .pre .1 .1 .1 .1 .1)
+branch-part-sides-start t c = omega (arith, branch-room t c)
 
 branch-part-sides-end : (t : ℕ) → branch-lts.Need-part-sides-end (branch-claims t) (branch-at t) branch.Post
-branch-part-sides-end t c =
-    let s = c .before .before .before .before in
-    let p = s .pre .1 .0 in
-    let k = branch-cut (s .args .words .now) (p .tree) (p .is) (s .pre .1 .1 .0) (c .before .event-end .result) (c .before .event-end .ensures) (c .list-end .result) (c .list-end .ensures) in
-    omega (arith, k .some, k .p-is, k .q-is, k .whole, s .good .0 .0, s .good .0 .1, s .pre .1 .1 .1 .1 .1)
+branch-part-sides-end t c = omega (arith, branch-room t c)
 
 branch-add-sides : (t : ℕ) → branch-lts.Need-add-sides (branch-claims t) (branch-at t) branch.Post
-branch-add-sides t c =
-    let s = c .before .before .before .before .before in
-    let p = s .pre .1 .0 in
-    let k = branch-cut (s .args .words .now) (p .tree) (p .is) (s .pre .1 .1 .0) (c .before .before .event-end .result) (c .before .before .event-end .ensures) (c .before .list-end .result) (c .before .list-end .ensures) in
-    omega (arith, k .some, k .p-is, k .q-is, k .whole, s .good .0 .0, s .good .0 .1, s .pre .1 .1 .1 .1 .1)
+branch-add-sides t c = omega (arith, branch-room t (c .before))
 
 branch-sides-requires : (t : ℕ) → branch-lts.Need-sides-requires (branch-claims t) (branch-at t) branch.Post
 branch-sides-requires t c κs =
@@ -297,53 +295,25 @@ branch-enum-told : (t : ℕ) → branch-lts.Need-enum-told (branch-claims t) (br
 branch-enum-told t c = search needs
 
 branch-add-mark : (t : ℕ) → branch-lts.Need-add-mark (branch-claims t) (branch-at t) branch.Post
-branch-add-mark t c =
-    let s = c .before .before .before .before .before .before .before .before .before .before .before in
-    let p = s .pre .1 .0 in
-    let k = branch-cut (s .args .words .now) (p .tree) (p .is) (s .pre .1 .1 .0) (c .before .before .before .before .before .before .before .before .event-end .result) (c .before .before .before .before .before .before .before .before .event-end .ensures) (c .before .before .before .before .before .before .before .list-end .result) (c .before .before .before .before .before .before .before .list-end .ensures) in
-    omega (arith, k .some, k .p-is, k .q-is, k .whole, s .good .0 .0, s .good .0 .1, s .pre .1 .1 .1 .1 .1)
+branch-add-mark t c = omega (arith, branch-room t (c .before .before .before .before .before .before .before))
 
 branch-mark-requires : (t : ℕ) → branch-lts.Need-mark-requires (branch-claims t) (branch-at t) branch.Post
-branch-mark-requires t c κs =
-    let s = c .before .before .before .before .before .before .before .before .before .before .before in
-    let p = s .pre .1 .0 in
-    let k = branch-cut (s .args .words .now) (p .tree) (p .is) (s .pre .1 .1 .0) (c .before .before .before .before .before .before .before .before .event-end .result) (c .before .before .before .before .before .before .before .before .event-end .ensures) (c .before .before .before .before .before .before .before .list-end .result) (c .before .before .before .before .before .before .before .list-end .ensures) in
-    omega (arith, k .some, k .p-is, k .q-is, k .whole, s .pre .1 .1 .1 .1 .1)
+branch-mark-requires t c κs = omega (arith, branch-room t (c .before .before .before .before .before .before .before))
 
 branch-mul-list : (t : ℕ) → branch-lts.Need-mul-list (branch-claims t) (branch-at t) branch.Post
-branch-mul-list t c =
-    let s = c .before .before .before .before .before .before .before .before .before .before .before .before .before .before in
-    let p = s .pre .1 .0 in
-    let k = branch-cut (s .args .words .now) (p .tree) (p .is) (s .pre .1 .1 .0) (c .before .before .before .before .before .before .before .before .before .before .before .event-end .result) (c .before .before .before .before .before .before .before .before .before .before .before .event-end .ensures) (c .before .before .before .before .before .before .before .before .before .before .list-end .result) (c .before .before .before .before .before .before .before .before .before .before .list-end .ensures) in
-    omega (arith, k .some, k .p-is, k .q-is, k .whole, s .good .0 .0, s .good .0 .1, s .pre .1 .1 .1 .1 .1)
+branch-mul-list t c = omega (arith, branch-room t (c .before .before .before .before .before .before .before .before .before .before))
 
 branch-sub-list : (t : ℕ) → branch-lts.Need-sub-list (branch-claims t) (branch-at t) branch.Post
-branch-sub-list t c =
-    let s = c .before .before .before .before .before .before .before .before .before .before .before .before .before .before in
-    let p = s .pre .1 .0 in
-    let k = branch-cut (s .args .words .now) (p .tree) (p .is) (s .pre .1 .1 .0) (c .before .before .before .before .before .before .before .before .before .before .before .event-end .result) (c .before .before .before .before .before .before .before .before .before .before .before .event-end .ensures) (c .before .before .before .before .before .before .before .before .before .before .list-end .result) (c .before .before .before .before .before .before .before .before .before .before .list-end .ensures) in
-    omega (arith, k .some, k .p-is, k .q-is, k .whole, s .good .0 .0, s .good .0 .1, s .pre .1 .1 .1 .1 .1)
+branch-sub-list t c = omega (arith, branch-room t (c .before .before .before .before .before .before .before .before .before .before))
 
 branch-part-list-start : (t : ℕ) → branch-lts.Need-part-list-start (branch-claims t) (branch-at t) branch.Post
-branch-part-list-start t c =
-    let s = c .before .before .before .before .before .before .before .before .before .before .before .before .before .before in
-    let p = s .pre .1 .0 in
-    let k = branch-cut (s .args .words .now) (p .tree) (p .is) (s .pre .1 .1 .0) (c .before .before .before .before .before .before .before .before .before .before .before .event-end .result) (c .before .before .before .before .before .before .before .before .before .before .before .event-end .ensures) (c .before .before .before .before .before .before .before .before .before .before .list-end .result) (c .before .before .before .before .before .before .before .before .before .before .list-end .ensures) in
-    omega (arith, k .some, k .p-is, k .q-is, k .whole, s .good .0 .0, s .good .0 .1, s .pre .1 .1 .1 .1 .1)
+branch-part-list-start t c = omega (arith, branch-room t (c .before .before .before .before .before .before .before .before .before .before))
 
 branch-part-list-end : (t : ℕ) → branch-lts.Need-part-list-end (branch-claims t) (branch-at t) branch.Post
-branch-part-list-end t c =
-    let s = c .before .before .before .before .before .before .before .before .before .before .before .before .before .before in
-    let p = s .pre .1 .0 in
-    let k = branch-cut (s .args .words .now) (p .tree) (p .is) (s .pre .1 .1 .0) (c .before .before .before .before .before .before .before .before .before .before .before .event-end .result) (c .before .before .before .before .before .before .before .before .before .before .before .event-end .ensures) (c .before .before .before .before .before .before .before .before .before .before .list-end .result) (c .before .before .before .before .before .before .before .before .before .before .list-end .ensures) in
-    omega (arith, k .some, k .p-is, k .q-is, k .whole, s .good .0 .0, s .good .0 .1, s .pre .1 .1 .1 .1 .1)
+branch-part-list-end t c = omega (arith, branch-room t (c .before .before .before .before .before .before .before .before .before .before))
 
 branch-add-list : (t : ℕ) → branch-lts.Need-add-list (branch-claims t) (branch-at t) branch.Post
-branch-add-list t c =
-    let s = c .before .before .before .before .before .before .before .before .before .before .before .before .before .before .before in
-    let p = s .pre .1 .0 in
-    let k = branch-cut (s .args .words .now) (p .tree) (p .is) (s .pre .1 .1 .0) (c .before .before .before .before .before .before .before .before .before .before .before .before .event-end .result) (c .before .before .before .before .before .before .before .before .before .before .before .before .event-end .ensures) (c .before .before .before .before .before .before .before .before .before .before .before .list-end .result) (c .before .before .before .before .before .before .before .before .before .before .before .list-end .ensures) in
-    omega (arith, k .some, k .p-is, k .q-is, k .whole, s .good .0 .0, s .good .0 .1, s .pre .1 .1 .1 .1 .1)
+branch-add-list t c = omega (arith, branch-room t (c .before .before .before .before .before .before .before .before .before .before .before))
 
 branch-list-requires : (t : ℕ) → branch-lts.Need-list-requires (branch-claims t) (branch-at t) branch.Post
 branch-list-requires t c κs =
@@ -377,11 +347,7 @@ branch-enum-told-3 : (t : ℕ) → branch-lts.Need-enum-told-3 (branch-claims t)
 branch-enum-told-3 t c = search needs
 
 branch-add-mark-2 : (t : ℕ) → branch-lts.Need-add-mark-2 (branch-claims t) (branch-at t) branch.Post
-branch-add-mark-2 t c =
-    let s = c .before .before .before .before .before .before .before .before .before .before .before .before .before .before .before .before .before .before .before .before .before .before in
-    let p = s .pre .1 .0 in
-    let k = branch-cut (s .args .words .now) (p .tree) (p .is) (s .pre .1 .1 .0) (c .before .before .before .before .before .before .before .before .before .before .before .before .before .before .before .before .before .before .before .event-end .result) (c .before .before .before .before .before .before .before .before .before .before .before .before .before .before .before .before .before .before .before .event-end .ensures) (c .before .before .before .before .before .before .before .before .before .before .before .before .before .before .before .before .before .before .list-end .result) (c .before .before .before .before .before .before .before .before .before .before .before .before .before .before .before .before .before .before .list-end .ensures) in
-    omega (arith, k .some, k .p-is, k .q-is, k .whole, s .good .0 .0, s .good .0 .1, s .pre .1 .1 .1 .1 .1)
+branch-add-mark-2 t c = omega (arith, branch-room t (c .before .before .before .before .before .before .before .before .before .before .before .before .before .before .before .before .before .before))
 
 branch-mark-requires-2 : (t : ℕ) → branch-lts.Need-mark-requires-2 (branch-claims t) (branch-at t) branch.Post
 branch-mark-requires-2 t c κs =
@@ -391,39 +357,19 @@ branch-mark-requires-2 t c κs =
     omega (arith, k .some, k .p-is, k .q-is, k .whole, s .pre .1 .1 .1 .1 .1, c .before .before .before .before .before .before .before .before .before .before .mark .kept .0, c .before .before .before .before .before .list .kept .1 .1 .1 .1 .1 .0)
 
 branch-mul-list-2 : (t : ℕ) → branch-lts.Need-mul-list-2 (branch-claims t) (branch-at t) branch.Post
-branch-mul-list-2 t c =
-    let s = c .before .before .before .before .before .before .before .before .before .before .before .before .before .before .before .before .before .before .before .before .before .before .before .before .before in
-    let p = s .pre .1 .0 in
-    let k = branch-cut (s .args .words .now) (p .tree) (p .is) (s .pre .1 .1 .0) (c .before .before .before .before .before .before .before .before .before .before .before .before .before .before .before .before .before .before .before .before .before .before .event-end .result) (c .before .before .before .before .before .before .before .before .before .before .before .before .before .before .before .before .before .before .before .before .before .before .event-end .ensures) (c .before .before .before .before .before .before .before .before .before .before .before .before .before .before .before .before .before .before .before .before .before .list-end .result) (c .before .before .before .before .before .before .before .before .before .before .before .before .before .before .before .before .before .before .before .before .before .list-end .ensures) in
-    omega (arith, k .some, k .p-is, k .q-is, k .whole, s .good .0 .0, s .good .0 .1, s .pre .1 .1 .1 .1 .1)
+branch-mul-list-2 t c = omega (arith, branch-room t (c .before .before .before .before .before .before .before .before .before .before .before .before .before .before .before .before .before .before .before .before .before))
 
 branch-sub-list-2 : (t : ℕ) → branch-lts.Need-sub-list-2 (branch-claims t) (branch-at t) branch.Post
-branch-sub-list-2 t c =
-    let s = c .before .before .before .before .before .before .before .before .before .before .before .before .before .before .before .before .before .before .before .before .before .before .before .before .before in
-    let p = s .pre .1 .0 in
-    let k = branch-cut (s .args .words .now) (p .tree) (p .is) (s .pre .1 .1 .0) (c .before .before .before .before .before .before .before .before .before .before .before .before .before .before .before .before .before .before .before .before .before .before .event-end .result) (c .before .before .before .before .before .before .before .before .before .before .before .before .before .before .before .before .before .before .before .before .before .before .event-end .ensures) (c .before .before .before .before .before .before .before .before .before .before .before .before .before .before .before .before .before .before .before .before .before .list-end .result) (c .before .before .before .before .before .before .before .before .before .before .before .before .before .before .before .before .before .before .before .before .before .list-end .ensures) in
-    omega (arith, k .some, k .p-is, k .q-is, k .whole, s .good .0 .0, s .good .0 .1, s .pre .1 .1 .1 .1 .1)
+branch-sub-list-2 t c = omega (arith, branch-room t (c .before .before .before .before .before .before .before .before .before .before .before .before .before .before .before .before .before .before .before .before .before))
 
 branch-part-list-start-2 : (t : ℕ) → branch-lts.Need-part-list-start-2 (branch-claims t) (branch-at t) branch.Post
-branch-part-list-start-2 t c =
-    let s = c .before .before .before .before .before .before .before .before .before .before .before .before .before .before .before .before .before .before .before .before .before .before .before .before .before in
-    let p = s .pre .1 .0 in
-    let k = branch-cut (s .args .words .now) (p .tree) (p .is) (s .pre .1 .1 .0) (c .before .before .before .before .before .before .before .before .before .before .before .before .before .before .before .before .before .before .before .before .before .before .event-end .result) (c .before .before .before .before .before .before .before .before .before .before .before .before .before .before .before .before .before .before .before .before .before .before .event-end .ensures) (c .before .before .before .before .before .before .before .before .before .before .before .before .before .before .before .before .before .before .before .before .before .list-end .result) (c .before .before .before .before .before .before .before .before .before .before .before .before .before .before .before .before .before .before .before .before .before .list-end .ensures) in
-    omega (arith, k .some, k .p-is, k .q-is, k .whole, s .good .0 .0, s .good .0 .1, s .pre .1 .1 .1 .1 .1)
+branch-part-list-start-2 t c = omega (arith, branch-room t (c .before .before .before .before .before .before .before .before .before .before .before .before .before .before .before .before .before .before .before .before .before))
 
 branch-part-list-end-2 : (t : ℕ) → branch-lts.Need-part-list-end-2 (branch-claims t) (branch-at t) branch.Post
-branch-part-list-end-2 t c =
-    let s = c .before .before .before .before .before .before .before .before .before .before .before .before .before .before .before .before .before .before .before .before .before .before .before .before .before in
-    let p = s .pre .1 .0 in
-    let k = branch-cut (s .args .words .now) (p .tree) (p .is) (s .pre .1 .1 .0) (c .before .before .before .before .before .before .before .before .before .before .before .before .before .before .before .before .before .before .before .before .before .before .event-end .result) (c .before .before .before .before .before .before .before .before .before .before .before .before .before .before .before .before .before .before .before .before .before .before .event-end .ensures) (c .before .before .before .before .before .before .before .before .before .before .before .before .before .before .before .before .before .before .before .before .before .list-end .result) (c .before .before .before .before .before .before .before .before .before .before .before .before .before .before .before .before .before .before .before .before .before .list-end .ensures) in
-    omega (arith, k .some, k .p-is, k .q-is, k .whole, s .good .0 .0, s .good .0 .1, s .pre .1 .1 .1 .1 .1)
+branch-part-list-end-2 t c = omega (arith, branch-room t (c .before .before .before .before .before .before .before .before .before .before .before .before .before .before .before .before .before .before .before .before .before))
 
 branch-add-list-2 : (t : ℕ) → branch-lts.Need-add-list-2 (branch-claims t) (branch-at t) branch.Post
-branch-add-list-2 t c =
-    let s = c .before .before .before .before .before .before .before .before .before .before .before .before .before .before .before .before .before .before .before .before .before .before .before .before .before .before in
-    let p = s .pre .1 .0 in
-    let k = branch-cut (s .args .words .now) (p .tree) (p .is) (s .pre .1 .1 .0) (c .before .before .before .before .before .before .before .before .before .before .before .before .before .before .before .before .before .before .before .before .before .before .before .event-end .result) (c .before .before .before .before .before .before .before .before .before .before .before .before .before .before .before .before .before .before .before .before .before .before .before .event-end .ensures) (c .before .before .before .before .before .before .before .before .before .before .before .before .before .before .before .before .before .before .before .before .before .before .list-end .result) (c .before .before .before .before .before .before .before .before .before .before .before .before .before .before .before .before .before .before .before .before .before .before .list-end .ensures) in
-    omega (arith, k .some, k .p-is, k .q-is, k .whole, s .good .0 .0, s .good .0 .1, s .pre .1 .1 .1 .1 .1)
+branch-add-list-2 t c = omega (arith, branch-room t (c .before .before .before .before .before .before .before .before .before .before .before .before .before .before .before .before .before .before .before .before .before .before))
 
 branch-list-requires-2 : (t : ℕ) → branch-lts.Need-list-requires-2 (branch-claims t) (branch-at t) branch.Post
 branch-list-requires-2 t c κs =
@@ -584,6 +530,52 @@ list-Inv-loop words base n unroll marks₀ s₀ left₀ at₀ marks s left at = 
 abbrev list-μ-loop : list-lts.MeasureT-loop
 list-μ-loop words base n unroll marks₀ s₀ left₀ at₀ marks s left at = left
 
+-- where the next statement of a list stands, within the words and the marks
+list-room : (t : ℕ) (c : list-lts.After-statement-end (list-claims t) (list-at t) list.Post list-Inv-loop list-μ-loop) →
+    (c .before .before .loop .at < c .statement-end .result) × ((c .statement-end .result ≤ length (c .before .before .before .before .before .before .args .words .now)) ×
+    (Room (c .before .before .before .before .before .before .args .base) (c .before .before .before .before .before .before .args .words .now) (c .before .before .before .before .before .before .args .marks .now)))
+list-room t c =
+    let s = c .before .before .before .before .before .before in
+    let p = s .pre .1 .0 in
+    let G = c .before .before .loop .inv .1 .1 .1 (p .tree) (p .is) in
+    let some = c .before .loop-test .taken in
+    let x = walks.going-next G some in
+    let e = c .statement-end .ensures (x .head) (x .head-is) in
+    (omega (arith, e, statement-some (x .head)), (omega (arith, e, walks.going-inside G some), (s .pre .1 .1 .1 .1, (omega (arith, s .good .0 .0, s .good .0 .1), omega (arith, s .pre .1 .1 .1 .1, s .good)))))
+
+-- a plain statement has three words or more, and the variable that it changes is one of the 64
+list-long : (t : ℕ) (c : list-lts.Then1 (list-claims t) (list-at t) list.Post list-Inv-loop list-μ-loop) → c .before .before .before .before .loop .at + 3 ≤ c .before .before .statement-end .result
+list-long t c =
+    let s = c .before .before .before .before .before .before .before .before in
+    let p = s .pre .1 .0 in
+    let G = c .before .before .before .before .loop .inv .1 .1 .1 (p .tree) (p .is) in
+    let some = c .before .before .before .loop-test .taken in
+    let x = walks.going-next G some in
+    omega (arith, c .before .before .statement-end .ensures (x .head) (x .head-is), walks.going-long G some (c .if1 .taken))
+
+list-own : (t : ℕ) (c : list-lts.Then1 (list-claims t) (list-at t) list.Post list-Inv-loop list-μ-loop) → getD (c .before .before .before .before .before .before .before .before .args .words .now) (c .before .before .before .before .loop .at + 1) 0 < 64
+list-own t c =
+    let s = c .before .before .before .before .before .before .before .before in
+    let p = s .pre .1 .0 in
+    let G = c .before .before .before .before .loop .inv .1 .1 .1 (p .tree) (p .is) in
+    let some = c .before .before .before .loop-test .taken in
+    let x = walks.going-next G some in
+    let k = walks.kind-below (walks.going-kind G some) (c .if1 .taken) in
+    omega (arith, walks.going-own G some k, target-below (x .head) (walks.going-statement G some (p .within)) k, s .pre .1 .1 .0)
+
+-- and so is the one that it reads
+list-read : (t : ℕ) (c : list-lts.After-source (list-claims t) (list-at t) list.Post list-Inv-loop list-μ-loop) → c .source .result < 64
+list-read t c =
+    let s = c .before .before .before .before .before .before .before .before .before .before .before .before in
+    let p = s .pre .1 .0 in
+    let G = c .before .before .before .before .before .before .before .before .loop .inv .1 .1 .1 (p .tree) (p .is) in
+    let some = c .before .before .before .before .before .before .before .loop-test .taken in
+    let x = walks.going-next G some in
+    let k = walks.kind-below (walks.going-kind G some) (c .before .before .before .before .if1 .taken) in
+    let e = c .before .before .before .before .before .before .statement-end .ensures (x .head) (x .head-is) in
+    let f = c .source .ensures (x .head) (walks.going-part G some (c .before .before .before .before .before .before .statement-end .result) e) in
+    omega (arith, f, source-below (x .head) (walks.going-statement G some (p .within)) k, s .pre .1 .1 .0)
+
 list-shared-slice-read-left : (t : ℕ) → list-lts.Need-shared-slice-read-left (list-claims t) (list-at t) list.Post list-Inv-loop list-μ-loop
 list-shared-slice-read-left t c =
     let p = c .before .before .before .pre .1 .0 in
@@ -608,115 +600,31 @@ list-sub-left : (t : ℕ) → list-lts.Need-sub-left (list-claims t) (list-at t)
 list-sub-left t c = omega (arith, c .before .loop-test .taken)
 
 list-mul-if1 : (t : ℕ) → list-lts.Need-mul-if1 (list-claims t) (list-at t) list.Post list-Inv-loop list-μ-loop
-list-mul-if1 t c =
-    let s = c .before .before .before .before .before .before in
-    let p = s .pre .1 .0 in
-    let l = c .before .before .loop in
-    let G = l .inv .1 .1 .1 (p .tree) (p .is) in
-    let some = c .before .loop-test .taken in
-    let x = walks.going-next G some in
-    let e = c .statement-end .ensures (x .head) (x .head-is) in
-    let inside = walks.going-inside G some in
-    omega (arith, inside, statement-some (x .head), s .good .0 .0, s .good .0 .1, s .pre .1 .1 .1 .1)
+list-mul-if1 t c = omega (arith, list-room t c)
 
 list-shared-slice-read-if1 : (t : ℕ) → list-lts.Need-shared-slice-read-if1 (list-claims t) (list-at t) list.Post list-Inv-loop list-μ-loop
-list-shared-slice-read-if1 t c =
-    let s = c .before .before .before .before .before .before .before in
-    let p = s .pre .1 .0 in
-    let l = c .before .before .before .loop in
-    let G = l .inv .1 .1 .1 (p .tree) (p .is) in
-    let some = c .before .before .loop-test .taken in
-    let x = walks.going-next G some in
-    let e = c .before .statement-end .ensures (x .head) (x .head-is) in
-    let inside = walks.going-inside G some in
-    omega (arith, inside, statement-some (x .head), s .good .0 .0, s .good .0 .1, s .pre .1 .1 .1 .1)
+list-shared-slice-read-if1 t c = omega (arith, list-room t (c .before))
 
 list-add-own : (t : ℕ) → list-lts.Need-add-own (list-claims t) (list-at t) list.Post list-Inv-loop list-μ-loop
-list-add-own t c =
-    let s = c .before .before .before .before .before .before .before .before .before in
-    let p = s .pre .1 .0 in
-    let l = c .before .before .before .before .before .loop in
-    let G = l .inv .1 .1 .1 (p .tree) (p .is) in
-    let some = c .before .before .before .before .loop-test .taken in
-    let x = walks.going-next G some in
-    let e = c .before .before .before .statement-end .ensures (x .head) (x .head-is) in
-    let inside = walks.going-inside G some in
-    let long = walks.going-long G some (c .before .if1 .taken) in
-    omega (arith, inside, long, s .good .0 .0, s .good .0 .1)
+list-add-own t c = omega (arith, list-room t (c .before .before .before), list-long t (c .before))
 
 list-mul-own : (t : ℕ) → list-lts.Need-mul-own (list-claims t) (list-at t) list.Post list-Inv-loop list-μ-loop
-list-mul-own t c =
-    let s = c .before .before .before .before .before .before .before .before .before in
-    let p = s .pre .1 .0 in
-    let l = c .before .before .before .before .before .loop in
-    let G = l .inv .1 .1 .1 (p .tree) (p .is) in
-    let some = c .before .before .before .before .loop-test .taken in
-    let x = walks.going-next G some in
-    let e = c .before .before .before .statement-end .ensures (x .head) (x .head-is) in
-    let inside = walks.going-inside G some in
-    let long = walks.going-long G some (c .before .if1 .taken) in
-    omega (arith, inside, long, s .good .0 .0, s .good .0 .1)
+list-mul-own t c = omega (arith, list-room t (c .before .before .before), list-long t (c .before))
 
 list-shared-slice-read-own : (t : ℕ) → list-lts.Need-shared-slice-read-own (list-claims t) (list-at t) list.Post list-Inv-loop list-μ-loop
-list-shared-slice-read-own t c =
-    let s = c .before .before .before .before .before .before .before .before .before .before in
-    let p = s .pre .1 .0 in
-    let l = c .before .before .before .before .before .before .loop in
-    let G = l .inv .1 .1 .1 (p .tree) (p .is) in
-    let some = c .before .before .before .before .before .loop-test .taken in
-    let x = walks.going-next G some in
-    let e = c .before .before .before .before .statement-end .ensures (x .head) (x .head-is) in
-    let inside = walks.going-inside G some in
-    let long = walks.going-long G some (c .before .before .if1 .taken) in
-    omega (arith, inside, long, s .good .0 .0, s .good .0 .1)
+list-shared-slice-read-own t c = omega (arith, list-room t (c .before .before .before .before), list-long t (c .before .before))
 
 list-mul-source : (t : ℕ) → list-lts.Need-mul-source (list-claims t) (list-at t) list.Post list-Inv-loop list-μ-loop
-list-mul-source t c =
-    let s = c .before .before .before .before .before .before .before .before .before .before in
-    let p = s .pre .1 .0 in
-    let l = c .before .before .before .before .before .before .loop in
-    let G = l .inv .1 .1 .1 (p .tree) (p .is) in
-    let some = c .before .before .before .before .before .loop-test .taken in
-    let x = walks.going-next G some in
-    let e = c .before .before .before .before .statement-end .ensures (x .head) (x .head-is) in
-    let inside = walks.going-inside G some in
-    omega (arith, inside, statement-some (x .head), s .good .0 .0, s .good .0 .1, s .pre .1 .1 .1 .1)
+list-mul-source t c = omega (arith, list-room t (c .before .before .before .before))
 
 list-sub-source : (t : ℕ) → list-lts.Need-sub-source (list-claims t) (list-at t) list.Post list-Inv-loop list-μ-loop
-list-sub-source t c =
-    let s = c .before .before .before .before .before .before .before .before .before .before in
-    let p = s .pre .1 .0 in
-    let l = c .before .before .before .before .before .before .loop in
-    let G = l .inv .1 .1 .1 (p .tree) (p .is) in
-    let some = c .before .before .before .before .before .loop-test .taken in
-    let x = walks.going-next G some in
-    let e = c .before .before .before .before .statement-end .ensures (x .head) (x .head-is) in
-    let inside = walks.going-inside G some in
-    omega (arith, inside, statement-some (x .head), s .good .0 .0, s .good .0 .1, s .pre .1 .1 .1 .1)
+list-sub-source t c = omega (arith, list-room t (c .before .before .before .before))
 
 list-part-source-start : (t : ℕ) → list-lts.Need-part-source-start (list-claims t) (list-at t) list.Post list-Inv-loop list-μ-loop
-list-part-source-start t c =
-    let s = c .before .before .before .before .before .before .before .before .before .before in
-    let p = s .pre .1 .0 in
-    let l = c .before .before .before .before .before .before .loop in
-    let G = l .inv .1 .1 .1 (p .tree) (p .is) in
-    let some = c .before .before .before .before .before .loop-test .taken in
-    let x = walks.going-next G some in
-    let e = c .before .before .before .before .statement-end .ensures (x .head) (x .head-is) in
-    let inside = walks.going-inside G some in
-    omega (arith, inside, statement-some (x .head), s .good .0 .0, s .good .0 .1, s .pre .1 .1 .1 .1)
+list-part-source-start t c = omega (arith, list-room t (c .before .before .before .before))
 
 list-part-source-end : (t : ℕ) → list-lts.Need-part-source-end (list-claims t) (list-at t) list.Post list-Inv-loop list-μ-loop
-list-part-source-end t c =
-    let s = c .before .before .before .before .before .before .before .before .before .before in
-    let p = s .pre .1 .0 in
-    let l = c .before .before .before .before .before .before .loop in
-    let G = l .inv .1 .1 .1 (p .tree) (p .is) in
-    let some = c .before .before .before .before .before .loop-test .taken in
-    let x = walks.going-next G some in
-    let e = c .before .before .before .before .statement-end .ensures (x .head) (x .head-is) in
-    let inside = walks.going-inside G some in
-    omega (arith, inside, statement-some (x .head), s .good .0 .0, s .good .0 .1, s .pre .1 .1 .1 .1)
+list-part-source-end t c = omega (arith, list-room t (c .before .before .before .before))
 
 list-source-requires : (t : ℕ) → list-lts.Need-source-requires (list-claims t) (list-at t) list.Post list-Inv-loop list-μ-loop
 list-source-requires t c κs =
@@ -731,110 +639,28 @@ list-source-requires t c κs =
     (walks.going-is G some (p .within) (c .before .before .before .before .before .statement-end .result) e, omega (arith, walks.going-first-word G some (p .within) (c .before .before .before .before .before .statement-end .result) e, c .before .before .before .if1 .taken))
 
 list-mul-cell : (t : ℕ) → list-lts.Need-mul-cell (list-claims t) (list-at t) list.Post list-Inv-loop list-μ-loop
-list-mul-cell t c =
-    let s = c .before .before .before .before .before .before .before .before .before .before .before .before in
-    let p = s .pre .1 .0 in
-    let l = c .before .before .before .before .before .before .before .before .loop in
-    let G = l .inv .1 .1 .1 (p .tree) (p .is) in
-    let some = c .before .before .before .before .before .before .before .loop-test .taken in
-    let x = walks.going-next G some in
-    let e = c .before .before .before .before .before .before .statement-end .ensures (x .head) (x .head-is) in
-    let inside = walks.going-inside G some in
-    let k = walks.kind-below (walks.going-kind G some) (c .before .before .before .before .if1 .taken) in
-    let w = walks.going-statement G some (p .within) in
-    omega (arith, walks.going-own G some k, target-below (x .head) w k, s .pre .1 .1 .0)
+list-mul-cell t c = omega (arith, list-own t (c .before .before .before .before))
 
 list-element-copy-out-cell : (t : ℕ) → list-lts.Need-element-copy-out-cell (list-claims t) (list-at t) list.Post list-Inv-loop list-μ-loop
-list-element-copy-out-cell t c =
-    let s = c .before .before .before .before .before .before .before .before .before .before .before .before in
-    let p = s .pre .1 .0 in
-    let l = c .before .before .before .before .before .before .before .before .loop in
-    let G = l .inv .1 .1 .1 (p .tree) (p .is) in
-    let some = c .before .before .before .before .before .before .before .loop-test .taken in
-    let x = walks.going-next G some in
-    let e = c .before .before .before .before .before .before .statement-end .ensures (x .head) (x .head-is) in
-    let inside = walks.going-inside G some in
-    let k = walks.kind-below (walks.going-kind G some) (c .before .before .before .before .if1 .taken) in
-    let w = walks.going-statement G some (p .within) in
-    omega (arith, walks.going-own G some k, target-below (x .head) w k, s .pre .1 .1 .0)
+list-element-copy-out-cell t c = omega (arith, list-own t (c .before .before .before .before))
 
 list-mul-other : (t : ℕ) → list-lts.Need-mul-other (list-claims t) (list-at t) list.Post list-Inv-loop list-μ-loop
-list-mul-other t c =
-    let s = c .before .before .before .before .before .before .before .before .before .before .before .before .before in
-    let p = s .pre .1 .0 in
-    let l = c .before .before .before .before .before .before .before .before .before .loop in
-    let G = l .inv .1 .1 .1 (p .tree) (p .is) in
-    let some = c .before .before .before .before .before .before .before .before .loop-test .taken in
-    let x = walks.going-next G some in
-    let e = c .before .before .before .before .before .before .before .statement-end .ensures (x .head) (x .head-is) in
-    let inside = walks.going-inside G some in
-    let k = walks.kind-below (walks.going-kind G some) (c .before .before .before .before .before .if1 .taken) in
-    let w = walks.going-statement G some (p .within) in
-    let f = c .before .source .ensures (x .head) (walks.going-part G some (c .before .before .before .before .before .before .before .statement-end .result) e) in
-    omega (arith, f, source-below (x .head) w k, s .pre .1 .1 .0)
+list-mul-other t c = omega (arith, list-read t (c .before))
 
 list-element-copy-out-other : (t : ℕ) → list-lts.Need-element-copy-out-other (list-claims t) (list-at t) list.Post list-Inv-loop list-μ-loop
-list-element-copy-out-other t c =
-    let s = c .before .before .before .before .before .before .before .before .before .before .before .before .before in
-    let p = s .pre .1 .0 in
-    let l = c .before .before .before .before .before .before .before .before .before .loop in
-    let G = l .inv .1 .1 .1 (p .tree) (p .is) in
-    let some = c .before .before .before .before .before .before .before .before .loop-test .taken in
-    let x = walks.going-next G some in
-    let e = c .before .before .before .before .before .before .before .statement-end .ensures (x .head) (x .head-is) in
-    let inside = walks.going-inside G some in
-    let k = walks.kind-below (walks.going-kind G some) (c .before .before .before .before .before .if1 .taken) in
-    let w = walks.going-statement G some (p .within) in
-    let f = c .before .source .ensures (x .head) (walks.going-part G some (c .before .before .before .before .before .before .before .statement-end .result) e) in
-    omega (arith, f, source-below (x .head) w k, s .pre .1 .1 .0)
+list-element-copy-out-other t c = omega (arith, list-read t (c .before))
 
 list-mul-change : (t : ℕ) → list-lts.Need-mul-change (list-claims t) (list-at t) list.Post list-Inv-loop list-μ-loop
-list-mul-change t c =
-    let s = c .before .before .before .before .before .before .before .before .before .before .before .before .before .before in
-    let p = s .pre .1 .0 in
-    let l = c .before .before .before .before .before .before .before .before .before .before .loop in
-    let G = l .inv .1 .1 .1 (p .tree) (p .is) in
-    let some = c .before .before .before .before .before .before .before .before .before .loop-test .taken in
-    let x = walks.going-next G some in
-    let e = c .before .before .before .before .before .before .before .before .statement-end .ensures (x .head) (x .head-is) in
-    let inside = walks.going-inside G some in
-    omega (arith, inside, statement-some (x .head), s .good .0 .0, s .good .0 .1, s .pre .1 .1 .1 .1)
+list-mul-change t c = omega (arith, list-room t (c .before .before .before .before .before .before .before .before))
 
 list-sub-change : (t : ℕ) → list-lts.Need-sub-change (list-claims t) (list-at t) list.Post list-Inv-loop list-μ-loop
-list-sub-change t c =
-    let s = c .before .before .before .before .before .before .before .before .before .before .before .before .before .before in
-    let p = s .pre .1 .0 in
-    let l = c .before .before .before .before .before .before .before .before .before .before .loop in
-    let G = l .inv .1 .1 .1 (p .tree) (p .is) in
-    let some = c .before .before .before .before .before .before .before .before .before .loop-test .taken in
-    let x = walks.going-next G some in
-    let e = c .before .before .before .before .before .before .before .before .statement-end .ensures (x .head) (x .head-is) in
-    let inside = walks.going-inside G some in
-    omega (arith, inside, statement-some (x .head), s .good .0 .0, s .good .0 .1, s .pre .1 .1 .1 .1)
+list-sub-change t c = omega (arith, list-room t (c .before .before .before .before .before .before .before .before))
 
 list-part-change-start : (t : ℕ) → list-lts.Need-part-change-start (list-claims t) (list-at t) list.Post list-Inv-loop list-μ-loop
-list-part-change-start t c =
-    let s = c .before .before .before .before .before .before .before .before .before .before .before .before .before .before in
-    let p = s .pre .1 .0 in
-    let l = c .before .before .before .before .before .before .before .before .before .before .loop in
-    let G = l .inv .1 .1 .1 (p .tree) (p .is) in
-    let some = c .before .before .before .before .before .before .before .before .before .loop-test .taken in
-    let x = walks.going-next G some in
-    let e = c .before .before .before .before .before .before .before .before .statement-end .ensures (x .head) (x .head-is) in
-    let inside = walks.going-inside G some in
-    omega (arith, inside, statement-some (x .head), s .good .0 .0, s .good .0 .1, s .pre .1 .1 .1 .1)
+list-part-change-start t c = omega (arith, list-room t (c .before .before .before .before .before .before .before .before))
 
 list-part-change-end : (t : ℕ) → list-lts.Need-part-change-end (list-claims t) (list-at t) list.Post list-Inv-loop list-μ-loop
-list-part-change-end t c =
-    let s = c .before .before .before .before .before .before .before .before .before .before .before .before .before .before in
-    let p = s .pre .1 .0 in
-    let l = c .before .before .before .before .before .before .before .before .before .before .loop in
-    let G = l .inv .1 .1 .1 (p .tree) (p .is) in
-    let some = c .before .before .before .before .before .before .before .before .before .loop-test .taken in
-    let x = walks.going-next G some in
-    let e = c .before .before .before .before .before .before .before .before .statement-end .ensures (x .head) (x .head-is) in
-    let inside = walks.going-inside G some in
-    omega (arith, inside, statement-some (x .head), s .good .0 .0, s .good .0 .1, s .pre .1 .1 .1 .1)
+list-part-change-end t c = omega (arith, list-room t (c .before .before .before .before .before .before .before .before))
 
 list-change-requires : (t : ℕ) → list-lts.Need-change-requires (list-claims t) (list-at t) list.Post list-Inv-loop list-μ-loop
 list-change-requires t c κs =
@@ -855,16 +681,7 @@ list-enum-told : (t : ℕ) → list-lts.Need-enum-told (list-claims t) (list-at 
 list-enum-told t c = search needs
 
 list-add-refused : (t : ℕ) → list-lts.Need-add-refused (list-claims t) (list-at t) list.Post list-Inv-loop list-μ-loop
-list-add-refused t c =
-    let s = c .before .before .before .before .before .before .before .before .before .before .before .before .before .before .before .before .before .before in
-    let p = s .pre .1 .0 in
-    let l = c .before .before .before .before .before .before .before .before .before .before .before .before .before .before .loop in
-    let G = l .inv .1 .1 .1 (p .tree) (p .is) in
-    let some = c .before .before .before .before .before .before .before .before .before .before .before .before .before .loop-test .taken in
-    let x = walks.going-next G some in
-    let e = c .before .before .before .before .before .before .before .before .before .before .before .before .statement-end .ensures (x .head) (x .head-is) in
-    let inside = walks.going-inside G some in
-    omega (arith, inside, statement-some (x .head), s .good .0 .0, s .good .0 .1, s .pre .1 .1 .1 .1)
+list-add-refused t c = omega (arith, list-room t (c .before .before .before .before .before .before .before .before .before .before .before .before))
 
 list-refused-requires : (t : ℕ) → list-lts.Need-refused-requires (list-claims t) (list-at t) list.Post list-Inv-loop list-μ-loop
 list-refused-requires t c κs = tt
@@ -943,32 +760,10 @@ list-enum-told-3 : (t : ℕ) → list-lts.Need-enum-told-3 (list-claims t) (list
 list-enum-told-3 t c = search needs
 
 list-mul-t46 : (t : ℕ) → list-lts.Need-mul-t46 (list-claims t) (list-at t) list.Post list-Inv-loop list-μ-loop
-list-mul-t46 t c =
-    let s = c .before .before .before .before .before .before .before .before .before .before .before .before .before .before .before .before .before .before .before .before .before in
-    let p = s .pre .1 .0 in
-    let l = c .before .before .before .before .before .before .before .before .before .before .before .before .before .before .before .before .before .loop in
-    let G = l .inv .1 .1 .1 (p .tree) (p .is) in
-    let some = c .before .before .before .before .before .before .before .before .before .before .before .before .before .before .before .before .loop-test .taken in
-    let x = walks.going-next G some in
-    let e = c .before .before .before .before .before .before .before .before .before .before .before .before .before .before .before .statement-end .ensures (x .head) (x .head-is) in
-    let inside = walks.going-inside G some in
-    let k = walks.kind-below (walks.going-kind G some) (c .before .before .before .before .before .before .before .before .before .before .before .before .before .if1 .taken) in
-    let w = walks.going-statement G some (p .within) in
-    omega (arith, walks.going-own G some k, target-below (x .head) w k, s .pre .1 .1 .0)
+list-mul-t46 t c = omega (arith, list-own t (c .before .before .before .before .before .before .before .before .before .before .before .before .before))
 
 list-element-set-from-s : (t : ℕ) → list-lts.Need-element-set-from-s (list-claims t) (list-at t) list.Post list-Inv-loop list-μ-loop
-list-element-set-from-s t c =
-    let s = c .before .before .before .before .before .before .before .before .before .before .before .before .before .before .before .before .before .before .before .before .before in
-    let p = s .pre .1 .0 in
-    let l = c .before .before .before .before .before .before .before .before .before .before .before .before .before .before .before .before .before .loop in
-    let G = l .inv .1 .1 .1 (p .tree) (p .is) in
-    let some = c .before .before .before .before .before .before .before .before .before .before .before .before .before .before .before .before .loop-test .taken in
-    let x = walks.going-next G some in
-    let e = c .before .before .before .before .before .before .before .before .before .before .before .before .before .before .before .statement-end .ensures (x .head) (x .head-is) in
-    let inside = walks.going-inside G some in
-    let k = walks.kind-below (walks.going-kind G some) (c .before .before .before .before .before .before .before .before .before .before .before .before .before .if1 .taken) in
-    let w = walks.going-statement G some (p .within) in
-    omega (arith, walks.going-own G some k, target-below (x .head) w k, s .pre .1 .1 .0)
+list-element-set-from-s t c = omega (arith, list-own t (c .before .before .before .before .before .before .before .before .before .before .before .before .before))
 
 list-loop-less-2 : (t : ℕ) → list-lts.Need-loop-less-2 (list-claims t) (list-at t) list.Post list-Inv-loop list-μ-loop
 list-loop-less-2 t c = omega (arith, c .before .before .before .before .before .before .before .before .before .before .before .before .before .before .before .before .loop-test .taken)
@@ -1035,64 +830,19 @@ list-loop-again-3 t c =
     )
 
 list-mul-statement : (t : ℕ) → list-lts.Need-mul-statement (list-claims t) (list-at t) list.Post list-Inv-loop list-μ-loop
-list-mul-statement t c =
-    let s = c .before .before .before .before .before .before .before .before in
-    let p = s .pre .1 .0 in
-    let l = c .before .before .before .before .loop in
-    let G = l .inv .1 .1 .1 (p .tree) (p .is) in
-    let some = c .before .before .before .loop-test .taken in
-    let x = walks.going-next G some in
-    let e = c .before .before .statement-end .ensures (x .head) (x .head-is) in
-    let inside = walks.going-inside G some in
-    omega (arith, inside, statement-some (x .head), s .good .0 .0, s .good .0 .1, s .pre .1 .1 .1 .1)
+list-mul-statement t c = omega (arith, list-room t (c .before .before))
 
 list-sub-statement : (t : ℕ) → list-lts.Need-sub-statement (list-claims t) (list-at t) list.Post list-Inv-loop list-μ-loop
-list-sub-statement t c =
-    let s = c .before .before .before .before .before .before .before .before in
-    let p = s .pre .1 .0 in
-    let l = c .before .before .before .before .loop in
-    let G = l .inv .1 .1 .1 (p .tree) (p .is) in
-    let some = c .before .before .before .loop-test .taken in
-    let x = walks.going-next G some in
-    let e = c .before .before .statement-end .ensures (x .head) (x .head-is) in
-    let inside = walks.going-inside G some in
-    omega (arith, inside, statement-some (x .head), s .good .0 .0, s .good .0 .1, s .pre .1 .1 .1 .1)
+list-sub-statement t c = omega (arith, list-room t (c .before .before))
 
 list-part-statement-start : (t : ℕ) → list-lts.Need-part-statement-start (list-claims t) (list-at t) list.Post list-Inv-loop list-μ-loop
-list-part-statement-start t c =
-    let s = c .before .before .before .before .before .before .before .before in
-    let p = s .pre .1 .0 in
-    let l = c .before .before .before .before .loop in
-    let G = l .inv .1 .1 .1 (p .tree) (p .is) in
-    let some = c .before .before .before .loop-test .taken in
-    let x = walks.going-next G some in
-    let e = c .before .before .statement-end .ensures (x .head) (x .head-is) in
-    let inside = walks.going-inside G some in
-    omega (arith, inside, statement-some (x .head), s .good .0 .0, s .good .0 .1, s .pre .1 .1 .1 .1)
+list-part-statement-start t c = omega (arith, list-room t (c .before .before))
 
 list-part-statement-end : (t : ℕ) → list-lts.Need-part-statement-end (list-claims t) (list-at t) list.Post list-Inv-loop list-μ-loop
-list-part-statement-end t c =
-    let s = c .before .before .before .before .before .before .before .before in
-    let p = s .pre .1 .0 in
-    let l = c .before .before .before .before .loop in
-    let G = l .inv .1 .1 .1 (p .tree) (p .is) in
-    let some = c .before .before .before .loop-test .taken in
-    let x = walks.going-next G some in
-    let e = c .before .before .statement-end .ensures (x .head) (x .head-is) in
-    let inside = walks.going-inside G some in
-    omega (arith, inside, statement-some (x .head), s .good .0 .0, s .good .0 .1, s .pre .1 .1 .1 .1)
+list-part-statement-end t c = omega (arith, list-room t (c .before .before))
 
 list-add-statement : (t : ℕ) → list-lts.Need-add-statement (list-claims t) (list-at t) list.Post list-Inv-loop list-μ-loop
-list-add-statement t c =
-    let s = c .before .before .before .before .before .before .before .before .before in
-    let p = s .pre .1 .0 in
-    let l = c .before .before .before .before .before .loop in
-    let G = l .inv .1 .1 .1 (p .tree) (p .is) in
-    let some = c .before .before .before .before .loop-test .taken in
-    let x = walks.going-next G some in
-    let e = c .before .before .before .statement-end .ensures (x .head) (x .head-is) in
-    let inside = walks.going-inside G some in
-    omega (arith, inside, statement-some (x .head), s .good .0 .0, s .good .0 .1, s .pre .1 .1 .1 .1)
+list-add-statement t c = omega (arith, list-room t (c .before .before .before))
 
 list-statement-requires : (t : ℕ) → list-lts.Need-statement-requires (list-claims t) (list-at t) list.Post list-Inv-loop list-μ-loop
 list-statement-requires t c κs =
@@ -1356,6 +1106,14 @@ normalize-Inv-loop given place body base n unroll marks₀ state v left₀ x₀ 
 abbrev normalize-μ-loop : normalize-lts.MeasureT-loop
 normalize-μ-loop given place body base n unroll marks₀ state v left₀ x₀ joined₀ marks left x joined = left
 
+-- the first given variable is one of the 64
+normalize-first : (t : ℕ) (c : normalize-lts.Else1 (normalize-claims t) (normalize-at t) normalize.Post normalize-Inv-loop normalize-μ-loop) → getD (c .before .before .before .before .args .given .now) 0 0 < 64
+normalize-first t c =
+    let s = c .before .before .before .before in
+    let ne = c .if1 .left in
+    let some : 0 < length (s .args .given .now) = omega arith in
+    omega (arith, given-laws.first-given (s .args .given .now) (s .pre .1 .0) some, s .pre .1 .1 .1 .0)
+
 normalize-list-requires : (t : ℕ) → normalize-lts.Need-list-requires (normalize-claims t) (normalize-at t) normalize.Post normalize-Inv-loop normalize-μ-loop
 normalize-list-requires t c κs =
     let s = c .before .before .before .before .before in
@@ -1379,20 +1137,10 @@ normalize-shared-slice-read-v t c =
     some
 
 normalize-mul-cell : (t : ℕ) → normalize-lts.Need-mul-cell (normalize-claims t) (normalize-at t) normalize.Post normalize-Inv-loop normalize-μ-loop
-normalize-mul-cell t c =
-    let s = c .before .before .before .before .before in
-    let ne = c .before .if1 .left in
-    let some : 0 < length (s .args .given .now) = omega arith in
-    let b = given-laws.first-given (s .args .given .now) (s .pre .1 .0) some in
-    omega (arith, s .pre .1 .1 .1 .0)
+normalize-mul-cell t c = omega (arith, normalize-first t (c .before))
 
 normalize-element-copy-out-cell : (t : ℕ) → normalize-lts.Need-element-copy-out-cell (normalize-claims t) (normalize-at t) normalize.Post normalize-Inv-loop normalize-μ-loop
-normalize-element-copy-out-cell t c =
-    let s = c .before .before .before .before .before in
-    let ne = c .before .if1 .left in
-    let some : 0 < length (s .args .given .now) = omega arith in
-    let b = given-laws.first-given (s .args .given .now) (s .pre .1 .0) some in
-    omega (arith, s .pre .1 .1 .1 .0)
+normalize-element-copy-out-cell t c = omega (arith, normalize-first t (c .before))
 
 normalize-values-requires : (t : ℕ) → normalize-lts.Need-values-requires (normalize-claims t) (normalize-at t) normalize.Post normalize-Inv-loop normalize-μ-loop
 normalize-values-requires t c κs = tt
@@ -1471,20 +1219,10 @@ normalize-cast-t36 : (t : ℕ) → normalize-lts.Need-cast-t36 (normalize-claims
 normalize-cast-t36 t c = omega (arith, c .before .loop .inv .1 .0, c .loop-test .taken)
 
 normalize-mul-t40 : (t : ℕ) → normalize-lts.Need-mul-t40 (normalize-claims t) (normalize-at t) normalize.Post normalize-Inv-loop normalize-μ-loop
-normalize-mul-t40 t c =
-    let s = c .before .before .before .before .before .before .before .before .before .before .before .before .before in
-    let ne = c .before .before .before .before .before .before .before .before .before .if1 .left in
-    let some : 0 < length (s .args .given .now) = omega arith in
-    let b = given-laws.first-given (s .args .given .now) (s .pre .1 .0) some in
-    omega (arith, s .pre .1 .1 .1 .0)
+normalize-mul-t40 t c = omega (arith, normalize-first t (c .before .before .before .before .before .before .before .before .before))
 
 normalize-element-set-from-s : (t : ℕ) → normalize-lts.Need-element-set-from-s (normalize-claims t) (normalize-at t) normalize.Post normalize-Inv-loop normalize-μ-loop
-normalize-element-set-from-s t c =
-    let s = c .before .before .before .before .before .before .before .before .before .before .before .before .before in
-    let ne = c .before .before .before .before .before .before .before .before .before .if1 .left in
-    let some : 0 < length (s .args .given .now) = omega arith in
-    let b = given-laws.first-given (s .args .given .now) (s .pre .1 .0) some in
-    omega (arith, s .pre .1 .1 .1 .0)
+normalize-element-set-from-s t c = omega (arith, normalize-first t (c .before .before .before .before .before .before .before .before .before))
 
 normalize-sub-normalize : (t : ℕ) → normalize-lts.Need-sub-normalize (normalize-claims t) (normalize-at t) normalize.Post normalize-Inv-loop normalize-μ-loop
 normalize-sub-normalize t c =
@@ -1607,6 +1345,15 @@ normalize-returns-5 t c =
     let none : l .left ≡ 0 = omega (arith, c .before .loop-test .left) in
     rw (c .good2 .ensures) (l .inv .1 .1 .1 b h .on _ _ (given-laws.no-value g (s .args .place) (s .args .base) b (s .args .t7) v vs (l .left) none (l .x) (l .joined) (l .marks)))
 
+-- where the body of a loop stands, within the words and the marks
+pass-room : (t : ℕ) (c : pass-lts.After-event-end (pass-claims t) (pass-at t) pass.Post) →
+    (3 < c .event-end .result) × ((c .event-end .result < length (c .before .before .before .args .words .now)) ×
+    (Room (c .before .before .before .args .base) (c .before .before .before .args .words .now) (c .before .before .before .args .marks .now)))
+pass-room t c =
+    let s = c .before .before .before in
+    let k = loop-inside (s .pre .1 .0) (c .event-end .result) (c .event-end .ensures) in
+    (k .some, (omega (arith, k .whole), (s .pre .1 .1 .1 .1, (omega (arith, s .good .0 .0, s .good .0 .1), omega (arith, s .pre .1 .1 .1 .1, s .good)))))
+
 pass-event-end-requires : (t : ℕ) → pass-lts.Need-event-end-requires (pass-claims t) (pass-at t) pass.Post
 pass-event-end-requires t c κs =
     let s = c .before .before in
@@ -1614,32 +1361,16 @@ pass-event-end-requires t c κs =
     loop-event (s .args .words .now) (p .unroll) (p .event) (p .body) (p .is)
 
 pass-sub-sides : (t : ℕ) → pass-lts.Need-sub-sides (pass-claims t) (pass-at t) pass.Post
-pass-sub-sides t c =
-    let s = c .before .before .before in
-    let p = s .pre .1 .0 in
-    let k = loop-inside p (c .event-end .result) (c .event-end .ensures) in
-    omega (arith, k .some, k .p-is, k .whole, s .good .0 .0, s .good .0 .1, s .pre .1 .1 .1 .1)
+pass-sub-sides t c = omega (arith, pass-room t c)
 
 pass-part-sides-start : (t : ℕ) → pass-lts.Need-part-sides-start (pass-claims t) (pass-at t) pass.Post
-pass-part-sides-start t c =
-    let s = c .before .before .before in
-    let p = s .pre .1 .0 in
-    let k = loop-inside p (c .event-end .result) (c .event-end .ensures) in
-    omega (arith, k .some, k .p-is, k .whole, s .good .0 .0, s .good .0 .1, s .pre .1 .1 .1 .1)
+pass-part-sides-start t c = omega (arith, pass-room t c)
 
 pass-part-sides-end : (t : ℕ) → pass-lts.Need-part-sides-end (pass-claims t) (pass-at t) pass.Post
-pass-part-sides-end t c =
-    let s = c .before .before .before in
-    let p = s .pre .1 .0 in
-    let k = loop-inside p (c .event-end .result) (c .event-end .ensures) in
-    omega (arith, k .some, k .p-is, k .whole, s .good .0 .0, s .good .0 .1, s .pre .1 .1 .1 .1)
+pass-part-sides-end t c = omega (arith, pass-room t c)
 
 pass-add-sides : (t : ℕ) → pass-lts.Need-add-sides (pass-claims t) (pass-at t) pass.Post
-pass-add-sides t c =
-    let s = c .before .before .before .before in
-    let p = s .pre .1 .0 in
-    let k = loop-inside p (c .before .event-end .result) (c .before .event-end .ensures) in
-    omega (arith, k .some, k .p-is, k .whole, s .good .0 .0, s .good .0 .1, s .pre .1 .1 .1 .1)
+pass-add-sides t c = omega (arith, pass-room t (c .before))
 
 pass-sides-requires : (t : ℕ) → pass-lts.Need-sides-requires (pass-claims t) (pass-at t) pass.Post
 pass-sides-requires t c κs =
@@ -1670,53 +1401,25 @@ pass-enum-told : (t : ℕ) → pass-lts.Need-enum-told (pass-claims t) (pass-at 
 pass-enum-told t c = search needs
 
 pass-add-mark : (t : ℕ) → pass-lts.Need-add-mark (pass-claims t) (pass-at t) pass.Post
-pass-add-mark t c =
-    let s = c .before .before .before .before .before .before .before .before .before .before in
-    let p = s .pre .1 .0 in
-    let k = loop-inside p (c .before .before .before .before .before .before .before .event-end .result) (c .before .before .before .before .before .before .before .event-end .ensures) in
-    omega (arith, k .some, k .p-is, k .whole, s .good .0 .0, s .good .0 .1, s .pre .1 .1 .1 .1)
+pass-add-mark t c = omega (arith, pass-room t (c .before .before .before .before .before .before .before))
 
 pass-mark-requires : (t : ℕ) → pass-lts.Need-mark-requires (pass-claims t) (pass-at t) pass.Post
-pass-mark-requires t c κs =
-    let s = c .before .before .before .before .before .before .before .before .before .before in
-    let p = s .pre .1 .0 in
-    let k = loop-inside p (c .before .before .before .before .before .before .before .event-end .result) (c .before .before .before .before .before .before .before .event-end .ensures) in
-    omega (arith, k .some, k .p-is, k .whole, s .pre .1 .1 .1 .1)
+pass-mark-requires t c κs = omega (arith, pass-room t (c .before .before .before .before .before .before .before))
 
 pass-mul-list : (t : ℕ) → pass-lts.Need-mul-list (pass-claims t) (pass-at t) pass.Post
-pass-mul-list t c =
-    let s = c .before .before .before .before .before .before .before .before .before .before .before .before .before in
-    let p = s .pre .1 .0 in
-    let k = loop-inside p (c .before .before .before .before .before .before .before .before .before .before .event-end .result) (c .before .before .before .before .before .before .before .before .before .before .event-end .ensures) in
-    omega (arith, k .some, k .p-is, k .whole, s .good .0 .0, s .good .0 .1, s .pre .1 .1 .1 .1)
+pass-mul-list t c = omega (arith, pass-room t (c .before .before .before .before .before .before .before .before .before .before))
 
 pass-sub-list : (t : ℕ) → pass-lts.Need-sub-list (pass-claims t) (pass-at t) pass.Post
-pass-sub-list t c =
-    let s = c .before .before .before .before .before .before .before .before .before .before .before .before .before in
-    let p = s .pre .1 .0 in
-    let k = loop-inside p (c .before .before .before .before .before .before .before .before .before .before .event-end .result) (c .before .before .before .before .before .before .before .before .before .before .event-end .ensures) in
-    omega (arith, k .some, k .p-is, k .whole, s .good .0 .0, s .good .0 .1, s .pre .1 .1 .1 .1)
+pass-sub-list t c = omega (arith, pass-room t (c .before .before .before .before .before .before .before .before .before .before))
 
 pass-part-list-start : (t : ℕ) → pass-lts.Need-part-list-start (pass-claims t) (pass-at t) pass.Post
-pass-part-list-start t c =
-    let s = c .before .before .before .before .before .before .before .before .before .before .before .before .before in
-    let p = s .pre .1 .0 in
-    let k = loop-inside p (c .before .before .before .before .before .before .before .before .before .before .event-end .result) (c .before .before .before .before .before .before .before .before .before .before .event-end .ensures) in
-    omega (arith, k .some, k .p-is, k .whole, s .good .0 .0, s .good .0 .1, s .pre .1 .1 .1 .1)
+pass-part-list-start t c = omega (arith, pass-room t (c .before .before .before .before .before .before .before .before .before .before))
 
 pass-part-list-end : (t : ℕ) → pass-lts.Need-part-list-end (pass-claims t) (pass-at t) pass.Post
-pass-part-list-end t c =
-    let s = c .before .before .before .before .before .before .before .before .before .before .before .before .before in
-    let p = s .pre .1 .0 in
-    let k = loop-inside p (c .before .before .before .before .before .before .before .before .before .before .event-end .result) (c .before .before .before .before .before .before .before .before .before .before .event-end .ensures) in
-    omega (arith, k .some, k .p-is, k .whole, s .good .0 .0, s .good .0 .1, s .pre .1 .1 .1 .1)
+pass-part-list-end t c = omega (arith, pass-room t (c .before .before .before .before .before .before .before .before .before .before))
 
 pass-add-list : (t : ℕ) → pass-lts.Need-add-list (pass-claims t) (pass-at t) pass.Post
-pass-add-list t c =
-    let s = c .before .before .before .before .before .before .before .before .before .before .before .before .before .before in
-    let p = s .pre .1 .0 in
-    let k = loop-inside p (c .before .before .before .before .before .before .before .before .before .before .before .event-end .result) (c .before .before .before .before .before .before .before .before .before .before .before .event-end .ensures) in
-    omega (arith, k .some, k .p-is, k .whole, s .good .0 .0, s .good .0 .1, s .pre .1 .1 .1 .1)
+pass-add-list t c = omega (arith, pass-room t (c .before .before .before .before .before .before .before .before .before .before .before))
 
 pass-list-requires : (t : ℕ) → pass-lts.Need-list-requires (pass-claims t) (pass-at t) pass.Post
 pass-list-requires t c κs =
@@ -1946,6 +1649,16 @@ settle-returns-4 t c =
     let on = turns-laws.joining-on g (s .args .base) e b (s .args .state) j (c .before .before .before .before .before .before .before .before .before .before .enum-told .given .1) (c .before .before .before .before .before .before .before .before .if1 .left) in
     rw (c .settled2 .ensures) (on .on _ _ (turns-laws.widening-on g (s .args .base) e b (c .before .before .before .before .before .before .before .before .before .before .before .before .before .before .growing .result .state) (c .before .before .before .before .before .before .before .before .before .before .before .before .before .before .growing .result .passes) w (c .before .before .enum-told2 .given .1)))
 
+-- where the body of a normalize stands, within the words and the marks
+statement-room : (t : ℕ) (c : statement-lts.Then3 (statement-claims t) (statement-at t) statement′.Post) →
+    (getD (c .before .before .before .before .before .before .args .words .now) 1 0 + 2 < length (c .before .before .before .before .before .before .args .words .now)) ×
+    (Room (c .before .before .before .before .before .before .args .base) (c .before .before .before .before .before .before .args .words .now) (c .before .before .before .before .before .before .args .marks .now))
+statement-room t c =
+    let s = c .before .before .before .before .before .before in
+    let p = s .pre .1 .0 in
+    let k = normalize-cut (s .args .words .now) (p .tree) (p .is) (c .if3 .taken) (getD (s .args .words .now) 1 0 + 2) refl in
+    (omega (arith, k .whole), (s .pre .1 .1 .1 .1 .1, (omega (arith, s .good .0 .0, s .good .0 .1), omega (arith, s .pre .1 .1 .1 .1 .1, s .good))))
+
 statement-shared-slice-read-kind : (t : ℕ) → statement-lts.Need-shared-slice-read-kind (statement-claims t) (statement-at t) statement′.Post
 statement-shared-slice-read-kind t c =
     let s = c .before .before .before in
@@ -2011,84 +1724,34 @@ statement-shared-slice-read-body t c =
     omega (arith, normalize-long (s .args .words .now) (p .tree) (p .is) (c .before .if3 .taken))
 
 statement-add-body : (t : ℕ) → statement-lts.Need-add-body (statement-claims t) (statement-at t) statement′.Post
-statement-add-body t c =
-    let s = c .before .before .before .before .before .before .before in
-    let p = s .pre .1 .0 in
-    let at : getD (s .args .words .now) 1 0 + 2 ≡ getD (s .args .words .now) 1 0 + 2 = refl in
-    let k = normalize-cut (s .args .words .now) (p .tree) (p .is) (c .before .if3 .taken) (getD (s .args .words .now) 1 0 + 2) at in
-    omega (arith, k .p-is, k .whole, s .good .0 .0, s .good .0 .1, s .pre .1 .1 .1 .1 .1)
+statement-add-body t c = omega (arith, statement-room t (c .before))
 
 statement-sub-normalize : (t : ℕ) → statement-lts.Need-sub-normalize (statement-claims t) (statement-at t) statement′.Post
-statement-sub-normalize t c =
-    let s = c .before .before .before .before .before .before .before in
-    let p = s .pre .1 .0 in
-    let at : getD (s .args .words .now) 1 0 + 2 ≡ getD (s .args .words .now) 1 0 + 2 = refl in
-    let k = normalize-cut (s .args .words .now) (p .tree) (p .is) (c .before .if3 .taken) (getD (s .args .words .now) 1 0 + 2) at in
-    omega (arith, k .p-is, k .whole, s .good .0 .0, s .good .0 .1, s .pre .1 .1 .1 .1 .1)
+statement-sub-normalize t c = omega (arith, statement-room t (c .before))
 
 statement-part-normalize-start : (t : ℕ) → statement-lts.Need-part-normalize-start (statement-claims t) (statement-at t) statement′.Post
-statement-part-normalize-start t c =
-    let s = c .before .before .before .before .before .before .before in
-    let p = s .pre .1 .0 in
-    let at : getD (s .args .words .now) 1 0 + 2 ≡ getD (s .args .words .now) 1 0 + 2 = refl in
-    let k = normalize-cut (s .args .words .now) (p .tree) (p .is) (c .before .if3 .taken) (getD (s .args .words .now) 1 0 + 2) at in
-    omega (arith, k .p-is, k .whole, s .good .0 .0, s .good .0 .1, s .pre .1 .1 .1 .1 .1)
+statement-part-normalize-start t c = omega (arith, statement-room t (c .before))
 
 statement-part-normalize-end : (t : ℕ) → statement-lts.Need-part-normalize-end (statement-claims t) (statement-at t) statement′.Post
-statement-part-normalize-end t c =
-    let s = c .before .before .before .before .before .before .before in
-    let p = s .pre .1 .0 in
-    let at : getD (s .args .words .now) 1 0 + 2 ≡ getD (s .args .words .now) 1 0 + 2 = refl in
-    let k = normalize-cut (s .args .words .now) (p .tree) (p .is) (c .before .if3 .taken) (getD (s .args .words .now) 1 0 + 2) at in
-    omega (arith, k .p-is, k .whole, s .good .0 .0, s .good .0 .1, s .pre .1 .1 .1 .1 .1)
+statement-part-normalize-end t c = omega (arith, statement-room t (c .before))
 
 statement-add-normalize : (t : ℕ) → statement-lts.Need-add-normalize (statement-claims t) (statement-at t) statement′.Post
-statement-add-normalize t c =
-    let s = c .before .before .before .before .before .before .before .before in
-    let p = s .pre .1 .0 in
-    let at : getD (s .args .words .now) 1 0 + 2 ≡ getD (s .args .words .now) 1 0 + 2 = refl in
-    let k = normalize-cut (s .args .words .now) (p .tree) (p .is) (c .before .before .if3 .taken) (getD (s .args .words .now) 1 0 + 2) at in
-    omega (arith, k .p-is, k .whole, s .good .0 .0, s .good .0 .1, s .pre .1 .1 .1 .1 .1)
+statement-add-normalize t c = omega (arith, statement-room t (c .before .before))
 
 statement-mul-normalize : (t : ℕ) → statement-lts.Need-mul-normalize (statement-claims t) (statement-at t) statement′.Post
-statement-mul-normalize t c =
-    let s = c .before .before .before .before .before .before .before .before in
-    let p = s .pre .1 .0 in
-    let at : getD (s .args .words .now) 1 0 + 2 ≡ getD (s .args .words .now) 1 0 + 2 = refl in
-    let k = normalize-cut (s .args .words .now) (p .tree) (p .is) (c .before .before .if3 .taken) (getD (s .args .words .now) 1 0 + 2) at in
-    omega (arith, k .p-is, k .whole, s .good .0 .0, s .good .0 .1, s .pre .1 .1 .1 .1 .1)
+statement-mul-normalize t c = omega (arith, statement-room t (c .before .before))
 
 statement-sub-normalize-2 : (t : ℕ) → statement-lts.Need-sub-normalize-2 (statement-claims t) (statement-at t) statement′.Post
-statement-sub-normalize-2 t c =
-    let s = c .before .before .before .before .before .before .before .before in
-    let p = s .pre .1 .0 in
-    let at : getD (s .args .words .now) 1 0 + 2 ≡ getD (s .args .words .now) 1 0 + 2 = refl in
-    let k = normalize-cut (s .args .words .now) (p .tree) (p .is) (c .before .before .if3 .taken) (getD (s .args .words .now) 1 0 + 2) at in
-    omega (arith, k .p-is, k .whole, s .good .0 .0, s .good .0 .1, s .pre .1 .1 .1 .1 .1)
+statement-sub-normalize-2 t c = omega (arith, statement-room t (c .before .before))
 
 statement-part-normalize-start-2 : (t : ℕ) → statement-lts.Need-part-normalize-start-2 (statement-claims t) (statement-at t) statement′.Post
-statement-part-normalize-start-2 t c =
-    let s = c .before .before .before .before .before .before .before .before in
-    let p = s .pre .1 .0 in
-    let at : getD (s .args .words .now) 1 0 + 2 ≡ getD (s .args .words .now) 1 0 + 2 = refl in
-    let k = normalize-cut (s .args .words .now) (p .tree) (p .is) (c .before .before .if3 .taken) (getD (s .args .words .now) 1 0 + 2) at in
-    omega (arith, k .p-is, k .whole, s .good .0 .0, s .good .0 .1, s .pre .1 .1 .1 .1 .1)
+statement-part-normalize-start-2 t c = omega (arith, statement-room t (c .before .before))
 
 statement-part-normalize-end-2 : (t : ℕ) → statement-lts.Need-part-normalize-end-2 (statement-claims t) (statement-at t) statement′.Post
-statement-part-normalize-end-2 t c =
-    let s = c .before .before .before .before .before .before .before .before in
-    let p = s .pre .1 .0 in
-    let at : getD (s .args .words .now) 1 0 + 2 ≡ getD (s .args .words .now) 1 0 + 2 = refl in
-    let k = normalize-cut (s .args .words .now) (p .tree) (p .is) (c .before .before .if3 .taken) (getD (s .args .words .now) 1 0 + 2) at in
-    omega (arith, k .p-is, k .whole, s .good .0 .0, s .good .0 .1, s .pre .1 .1 .1 .1 .1)
+statement-part-normalize-end-2 t c = omega (arith, statement-room t (c .before .before))
 
 statement-add-normalize-2 : (t : ℕ) → statement-lts.Need-add-normalize-2 (statement-claims t) (statement-at t) statement′.Post
-statement-add-normalize-2 t c =
-    let s = c .before .before .before .before .before .before .before .before .before in
-    let p = s .pre .1 .0 in
-    let at : getD (s .args .words .now) 1 0 + 2 ≡ getD (s .args .words .now) 1 0 + 2 = refl in
-    let k = normalize-cut (s .args .words .now) (p .tree) (p .is) (c .before .before .before .if3 .taken) (getD (s .args .words .now) 1 0 + 2) at in
-    omega (arith, k .p-is, k .whole, s .good .0 .0, s .good .0 .1, s .pre .1 .1 .1 .1 .1)
+statement-add-normalize-2 t c = omega (arith, statement-room t (c .before .before .before))
 
 statement-normalize-requires : (t : ℕ) → statement-lts.Need-normalize-requires (statement-claims t) (statement-at t) statement′.Post
 statement-normalize-requires t c κs =
