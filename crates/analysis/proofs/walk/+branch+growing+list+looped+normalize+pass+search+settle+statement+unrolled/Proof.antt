@@ -1106,13 +1106,20 @@ normalize-Inv-loop given place body base n unroll marks₀ state v left₀ x₀ 
 abbrev normalize-μ-loop : normalize-lts.MeasureT-loop
 normalize-μ-loop given place body base n unroll marks₀ state v left₀ x₀ joined₀ marks left x joined = left
 
--- the first given variable is one of the 64
+-- there is a given variable, and the first is one of the 64
+normalize-some : (t : ℕ) (c : normalize-lts.Else1 (normalize-claims t) (normalize-at t) normalize.Post normalize-Inv-loop normalize-μ-loop) → 0 < length (c .before .before .before .before .args .given .now)
+normalize-some t c = let ne = c .if1 .left in omega arith
+
 normalize-first : (t : ℕ) (c : normalize-lts.Else1 (normalize-claims t) (normalize-at t) normalize.Post normalize-Inv-loop normalize-μ-loop) → getD (c .before .before .before .before .args .given .now) 0 0 < 64
 normalize-first t c =
     let s = c .before .before .before .before in
-    let ne = c .if1 .left in
-    let some : 0 < length (s .args .given .now) = omega arith in
-    omega (arith, given-laws.first-given (s .args .given .now) (s .pre .1 .0) some, s .pre .1 .1 .1 .0)
+    omega (arith, given-laws.first-given (s .args .given .now) (s .pre .1 .0) (normalize-some t c), s .pre .1 .1 .1 .0)
+
+-- its values are those of its range in the state
+normalize-values : (t : ℕ) (c : normalize-lts.After-values (normalize-claims t) (normalize-at t) normalize.Post normalize-Inv-loop normalize-μ-loop) → c .values .result ≡ stages.values-of (c .before .before .before .before .before .before .before .args .t7 .live) (states.get (c .before .before .before .before .before .before .before .args .t7) (getD (c .before .before .before .before .before .before .before .args .given .now) 0 0))
+normalize-values t c =
+    let s = c .before .before .before .before .before .before .before in
+    c .values .ensures .0 ∙ ap (λ (z : Cell). stages.values-of (s .args .t7 .live) (z .range)) (there (s .args .t7 .cells) (getD (s .args .given .now) 0 0) _ (omega (arith, normalize-first t (c .before .before .before), state-long (s .args .t7) (s .good .1 .1 .1 .1 .1 .1 .0))))
 
 normalize-list-requires : (t : ℕ) → normalize-lts.Need-list-requires (normalize-claims t) (normalize-at t) normalize.Post normalize-Inv-loop normalize-μ-loop
 normalize-list-requires t c κs =
@@ -1130,11 +1137,7 @@ normalize-returns t c =
     given-laws.nothing-given g (s .args .place) (s .args .base) b (s .args .t7) (s .args .given .now) (c .before .before .before .before .if1 .taken) (c .before .before .list .ensures b h)
 
 normalize-shared-slice-read-v : (t : ℕ) → normalize-lts.Need-shared-slice-read-v (normalize-claims t) (normalize-at t) normalize.Post normalize-Inv-loop normalize-μ-loop
-normalize-shared-slice-read-v t c =
-    let s = c .before .before .before .before .before in
-    let ne = c .before .if1 .left in
-    let some : 0 < length (s .args .given .now) = omega arith in
-    some
+normalize-shared-slice-read-v t c = normalize-some t (c .before)
 
 normalize-mul-cell : (t : ℕ) → normalize-lts.Need-mul-cell (normalize-claims t) (normalize-at t) normalize.Post normalize-Inv-loop normalize-μ-loop
 normalize-mul-cell t c = omega (arith, normalize-first t (c .before))
@@ -1155,12 +1158,8 @@ normalize-returns-2 : (t : ℕ) → normalize-lts.Need-returns-2 (normalize-clai
 normalize-returns-2 t c =
     λ b h.
     let s = c .before .before .before .before .before .before .before .before .before .before in
-    let ne = c .before .before .before .before .before .before .if1 .left in
-    let some : 0 < length (s .args .given .now) = omega arith in
-    let low = given-laws.first-given (s .args .given .now) (s .pre .1 .0) some in
     let g = setting (s .args .n) (s .args .unroll) in
-    let q = c .before .before .before .values .ensures .0 ∙ ap (λ (z : Cell). stages.values-of (s .args .t7 .live) (z .range)) (there (s .args .t7 .cells) (getD (s .args .given .now) 0 0) _ (omega (arith, s .pre .1 .1 .1 .0, state-long (s .args .t7) (s .good .1 .1 .1 .1 .1 .1 .0)))) in
-    let j = given-laws.as-list g (s .args .place) (s .args .base) b (s .args .t7) (s .args .given .now) some (given-laws.given-unbounded g (s .args .place) (s .args .base) b (s .args .t7) (getD (s .args .given .now) 0 0) (take (length (s .args .given .now) - 1) (drop 1 (s .args .given .now))) (s .args .marks .now) q (c .before .enum-told .given .1)) in
+    let j = given-laws.as-list g (s .args .place) (s .args .base) b (s .args .t7) (s .args .given .now) (normalize-some t (c .before .before .before .before .before .before)) (given-laws.given-unbounded g (s .args .place) (s .args .base) b (s .args .t7) (getD (s .args .given .now) 0 0) (take (length (s .args .given .now) - 1) (drop 1 (s .args .given .now))) (s .args .marks .now) (normalize-values t (c .before .before .before)) (c .before .enum-told .given .1)) in
     record { out = c .refused .ensures ∙ j .out; marks = j .marks }
 
 normalize-enum-told-2 : (t : ℕ) → normalize-lts.Need-enum-told-2 (normalize-claims t) (normalize-at t) normalize.Post normalize-Inv-loop normalize-μ-loop
@@ -1173,12 +1172,8 @@ normalize-returns-3 : (t : ℕ) → normalize-lts.Need-returns-3 (normalize-clai
 normalize-returns-3 t c =
     λ b h.
     let s = c .before .before .before .before .before .before .before .before .before .before in
-    let ne = c .before .before .before .before .before .before .if1 .left in
-    let some : 0 < length (s .args .given .now) = omega arith in
-    let low = given-laws.first-given (s .args .given .now) (s .pre .1 .0) some in
     let g = setting (s .args .n) (s .args .unroll) in
-    let q = c .before .before .before .values .ensures .0 ∙ ap (λ (z : Cell). stages.values-of (s .args .t7 .live) (z .range)) (there (s .args .t7 .cells) (getD (s .args .given .now) 0 0) _ (omega (arith, s .pre .1 .1 .1 .0, state-long (s .args .t7) (s .good .1 .1 .1 .1 .1 .1 .0)))) in
-    let j = given-laws.as-list g (s .args .place) (s .args .base) b (s .args .t7) (s .args .given .now) some (given-laws.given-too-many g (s .args .place) (s .args .base) b (s .args .t7) (getD (s .args .given .now) 0 0) (take (length (s .args .given .now) - 1) (drop 1 (s .args .given .now))) (s .args .marks .now) q (c .before .enum-told2 .given .1)) in
+    let j = given-laws.as-list g (s .args .place) (s .args .base) b (s .args .t7) (s .args .given .now) (normalize-some t (c .before .before .before .before .before .before)) (given-laws.given-too-many g (s .args .place) (s .args .base) b (s .args .t7) (getD (s .args .given .now) 0 0) (take (length (s .args .given .now) - 1) (drop 1 (s .args .given .now))) (s .args .marks .now) (normalize-values t (c .before .before .before)) (c .before .enum-told2 .given .1)) in
     record { out = c .refused2 .ensures ∙ j .out; marks = j .marks }
 
 normalize-enum-known-values : (t : ℕ) → normalize-lts.Need-enum-known-values (normalize-claims t) (normalize-at t) normalize.Post normalize-Inv-loop normalize-μ-loop
@@ -1201,13 +1196,8 @@ normalize-loop-holds t c =
         (
           given-laws.from-live (s .args .t7 .live) _ (sym (told .1) ∙ v .0),
           λ b h.
-              let s = c .before .before .before .before .before .before .before .before .before .before .before in
-              let ne = c .before .before .before .before .before .before .before .if1 .left in
-              let some : 0 < length (s .args .given .now) = omega arith in
-              let low = given-laws.first-given (s .args .given .now) (s .pre .1 .0) some in
               let g = setting (s .args .n) (s .args .unroll) in
-              let q = c .before .before .before .before .values .ensures .0 ∙ ap (λ (z : Cell). stages.values-of (s .args .t7 .live) (z .range)) (there (s .args .t7 .cells) (getD (s .args .given .now) 0 0) _ (omega (arith, s .pre .1 .1 .1 .0, state-long (s .args .t7) (s .good .1 .1 .1 .1 .1 .1 .0)))) in
-              rw (c .empty .ensures) (given-laws.given-leads g (s .args .place) (s .args .base) b (s .args .t7) (s .args .given .now) some (s .args .marks .now) q (told .1)),
+              rw (c .empty .ensures) (given-laws.given-leads g (s .args .place) (s .args .base) b (s .args .t7) (s .args .given .now) (normalize-some t (c .before .before .before .before .before .before .before)) (s .args .marks .now) (normalize-values t (c .before .before .before .before)) (told .1)),
         ),
       ),
     )
@@ -1225,39 +1215,24 @@ normalize-element-set-from-s : (t : ℕ) → normalize-lts.Need-element-set-from
 normalize-element-set-from-s t c = omega (arith, normalize-first t (c .before .before .before .before .before .before .before .before .before))
 
 normalize-sub-normalize : (t : ℕ) → normalize-lts.Need-sub-normalize (normalize-claims t) (normalize-at t) normalize.Post normalize-Inv-loop normalize-μ-loop
-normalize-sub-normalize t c =
-    let s = c .before .before .before .before .before .before .before .before .before .before .before .before .before in
-    let ne = c .before .before .before .before .before .before .before .before .before .if1 .left in
-    let some : 0 < length (s .args .given .now) = omega arith in
-    omega arith
+normalize-sub-normalize t c = omega (arith, normalize-some t (c .before .before .before .before .before .before .before .before .before))
 
 normalize-part-normalize-start : (t : ℕ) → normalize-lts.Need-part-normalize-start (normalize-claims t) (normalize-at t) normalize.Post normalize-Inv-loop normalize-μ-loop
-normalize-part-normalize-start t c =
-    let s = c .before .before .before .before .before .before .before .before .before .before .before .before .before in
-    let ne = c .before .before .before .before .before .before .before .before .before .if1 .left in
-    let some : 0 < length (s .args .given .now) = omega arith in
-    omega arith
+normalize-part-normalize-start t c = omega (arith, normalize-some t (c .before .before .before .before .before .before .before .before .before))
 
 normalize-part-normalize-end : (t : ℕ) → normalize-lts.Need-part-normalize-end (normalize-claims t) (normalize-at t) normalize.Post normalize-Inv-loop normalize-μ-loop
-normalize-part-normalize-end t c =
-    let s = c .before .before .before .before .before .before .before .before .before .before .before .before .before in
-    let ne = c .before .before .before .before .before .before .before .before .before .if1 .left in
-    let some : 0 < length (s .args .given .now) = omega arith in
-    omega arith
+normalize-part-normalize-end t c = omega (arith, normalize-some t (c .before .before .before .before .before .before .before .before .before))
 
 normalize-add-normalize : (t : ℕ) → normalize-lts.Need-add-normalize (normalize-claims t) (normalize-at t) normalize.Post normalize-Inv-loop normalize-μ-loop
 normalize-add-normalize t c =
     let s = c .before .before .before .before .before .before .before .before .before .before .before .before .before .before in
-    let ne = c .before .before .before .before .before .before .before .before .before .before .if1 .left in
-    let some : 0 < length (s .args .given .now) = omega arith in
-    omega (arith, s .pre .1 .1 .1 .1 .1 .0, s .good)
+    omega (arith, normalize-some t (c .before .before .before .before .before .before .before .before .before .before), s .pre .1 .1 .1 .1 .1 .0, s .good)
 
 normalize-normalize-requires : (t : ℕ) → normalize-lts.Need-normalize-requires (normalize-claims t) (normalize-at t) normalize.Post normalize-Inv-loop normalize-μ-loop
 normalize-normalize-requires t c κs =
     let s = c .before .before .before .before .before .before .before .before .before .before .before .before .before .before .before in
-    let ne = c .before .before .before .before .before .before .before .before .before .before .before .if1 .left in
-    let some : 0 < length (s .args .given .now) = omega arith in
     let l = s .args .given .now in
+    let some = normalize-some t (c .before .before .before .before .before .before .before .before .before .before .before) in
     let rest : length (take (length l - 1) (drop 1 l)) ≡ length l - 1 = (let e = ap length (given-laws.first-and-rest l some) in omega arith) in (
       omega (arith, rest, s .pre .0),
       (
