@@ -5,6 +5,7 @@ use mathlib.Core.List.{List}
 use Prim.Native.Nat.{ℕ, _+_, _-_, _<_, _≤_}
 use native.Mathlib.Omega.{arith}
 use lib.ListN.{length, getD, take, drop, set}
+use Rattle.ranges.specs.declared.Bounded.{Bounded}
 use Rattle.ranges.specs.declared.Bounded.the-variants.{Is, Over}
 use Rattle.ranges.specs.declared.Range.{Range}
 use Rattle.states.specs.declared.State.{State}
@@ -134,6 +135,10 @@ only-fail {ws} c e least no-if no-loop no-normalize =
 
 -- ---- a list
 
+-- a plain statement gives the same from the same ranges
+pub same-change : (c : Statement) {own read own₁ read₁ : Range} → own ≡ own₁ → read ≡ read₁ → plain.change c own read ≡ plain.change c own₁ read₁
+same-change c p q = rw (p, q)
+
 -- what is left of the list t at `at`, with so many statements left: it lies within the limits, and what it answers from here on is t's answer
 pub record Going (g : Setting) (base : ℕ) (ws : List ℕ) (s₀ : State) (m₀ : List ℕ) (t : Statements) (left at : ℕ) (s : State) (m : List ℕ) : Type 0 where
   pub rest : Statements
@@ -206,17 +211,16 @@ module _ {g : Setting} {base : ℕ} {ws : List ℕ} {s₀ : State} {m₀ : List 
       abbrev made : Range → State
       made r = states.put s (plain.target (going-next .head)) r
 
-      module _ (own read : Range) (own-is : own ≡ states.get s (plain.target (going-next .head))) (read-is : read ≡ states.get s (plain.source (going-next .head))) where
-        as-read : plain.change (going-next .head) own read ≡ plain.change (going-next .head) (states.get s (plain.target (going-next .head))) (states.get s (plain.source (going-next .head)))
-        as-read = rw (own-is, read-is)
+      abbrev given : Bounded
+      given = plain.change (going-next .head) (states.get s (plain.target (going-next .head))) (states.get s (plain.source (going-next .head)))
 
-        pub going-over : s .live ≡ true → Over ≡ plain.change (going-next .head) own read → Says answered (noted.list g (base + 1) t s₀) (answered (Refuses 8 (base + at))) m₀ m
-        going-over l e = from-next (answered (Refuses 8 (base + at))) m (steps.plain-over g (base + at) s (going-next .head) (going-next .tail) plainly m l (sym (e ∙ as-read)))
+      pub going-over : s .live ≡ true → Over ≡ given → Says answered (noted.list g (base + 1) t s₀) (answered (Refuses 8 (base + at))) m₀ m
+      going-over l e = from-next (answered (Refuses 8 (base + at))) m (steps.plain-over g (base + at) s (going-next .head) (going-next .tail) plainly m l (sym e))
 
-        pub going-changed : (end : ℕ) → end ≡ at + length (code.statement (going-next .head)) → {r : Range} → Is r ≡ plain.change (going-next .head) own read → (s₁ : State) → s₁ ≡ made r →
-            Going g base ws s₀ m₀ t (left - 1) end s₁ m
-        going-changed end e {r} q s₁ h = subst (λ (z : State). Going g base ws s₀ m₀ t (left - 1) end z m) (sym h)
-            (going-on end (made r) m e (steps.plain-on g (base + at) s (going-next .head) (going-next .tail) plainly m (sym (q ∙ as-read))))
+      pub going-changed : (end : ℕ) → end ≡ at + length (code.statement (going-next .head)) → {r : Range} → Is r ≡ given → (s₁ : State) → s₁ ≡ made r →
+          Going g base ws s₀ m₀ t (left - 1) end s₁ m
+      going-changed end e {r} q s₁ h = subst (λ (z : State). Going g base ws s₀ m₀ t (left - 1) end z m) (sym h)
+          (going-on end (made r) m e (steps.plain-on g (base + at) s (going-next .head) (going-next .tail) plainly m (sym q)))
 
       pub going-dead : (end : ℕ) → end ≡ at + length (code.statement (going-next .head)) → s .live ≡ false → Going g base ws s₀ m₀ t (left - 1) end s m
       going-dead end e d = going-on end s m e (steps.plain-dead g (base + at) s (going-next .head) (going-next .tail) plainly m d)

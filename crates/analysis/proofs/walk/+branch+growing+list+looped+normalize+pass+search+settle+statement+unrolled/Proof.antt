@@ -23,7 +23,7 @@ use Rattle.states.proofs.within.Reads as within-reads
 use Rattle.paper.specs.Limits.{Each}
 use Rattle.paper.specs.Rules as rules
 use Rattle.paper.specs.Code as code
-use Rattle.paper.specs.Tree.{Unroll, Event, Statements, While}
+use Rattle.paper.specs.Tree.{Unroll, Event, Statement, Statements, While}
 use Rattle.words.proofs.Bounds.{branch-bounds, normalize-bounds}
 use Rattle.words.proofs.Parts.{begins-whole}
 use Rattle.words.proofs.Nodes.{statement-some, while-here}
@@ -576,6 +576,25 @@ list-read t c =
     let f = c .source .ensures (x .head) (walks.going-part G some (c .before .before .before .before .before .before .statement-end .result) e) in
     omega (arith, f, source-below (x .head) (walks.going-statement G some (p .within)) k, s .pre .1 .1 .0)
 
+-- the statement that is next, of a list that the words are
+abbrev list-next : (t : ℕ) (c : list-lts.After-statement-end (list-claims t) (list-at t) list.Post list-Inv-loop list-μ-loop) (tree : Statements) → c .before .before .before .before .before .before .args .words .now ≡ code.program tree → Statement
+list-next t c tree h = walks.going-next (c .before .before .loop .inv .1 .1 .1 tree h) (c .before .loop-test .taken) .head
+
+-- the range that it gives is the rules', from the ranges that the state has
+list-change : (t : ℕ) (c : list-lts.After-change (list-claims t) (list-at t) list.Post list-Inv-loop list-μ-loop) (tree : Statements) (h : c .before .before .before .before .before .before .before .before .before .before .before .before .before .before .before .before .args .words .now ≡ code.program tree) →
+    c .change .result ≡ plain.change (list-next t (c .before .before .before .before .before .before .before .before .before .before) tree h) (states.get (c .before .before .before .before .before .before .before .before .before .before .before .before .loop .s) (plain.target (list-next t (c .before .before .before .before .before .before .before .before .before .before) tree h))) (states.get (c .before .before .before .before .before .before .before .before .before .before .before .before .loop .s) (plain.source (list-next t (c .before .before .before .before .before .before .before .before .before .before) tree h)))
+list-change t c tree h =
+    let at = c .before .before .before .before .before .before .before .before .before .before .before .before .loop in
+    let G = at .inv .1 .1 .1 tree h in
+    let some = c .before .before .before .before .before .before .before .before .before .before .before .loop-test .taken in
+    let x = walks.going-next G some in
+    let f = walks.going-part G some (c .before .before .before .before .before .before .before .before .before .before .statement-end .result) (c .before .before .before .before .before .before .before .before .before .before .statement-end .ensures (x .head) (x .head-is)) in
+    let k = walks.kind-below (walks.going-kind G some) (c .before .before .before .before .before .before .before .before .if1 .taken) in
+    let own = there (at .s .cells) (getD (c .before .before .before .before .before .before .before .before .before .before .before .before .before .before .before .before .args .words .now) (at .at + 1) 0) _ (omega (arith, at .inv .1 .1 .0, list-own t (c .before .before .before .before .before .before .before .before))) in
+    let read = there (at .s .cells) (c .before .before .before .before .source .result) _ (omega (arith, at .inv .1 .1 .0, list-read t (c .before .before .before .before))) in
+    c .change .ensures (x .head) f ∙
+    walks.same-change (x .head) (ap (λ (z : Cell). z .range) own ∙ ap (λ (v : ℕ). states.get (at .s) v) (walks.going-own G some k)) (ap (λ (z : Cell). z .range) read ∙ ap (λ (v : ℕ). states.get (at .s) v) (c .before .before .before .before .source .ensures (x .head) f))
+
 list-shared-slice-read-left : (t : ℕ) → list-lts.Need-shared-slice-read-left (list-claims t) (list-at t) list.Post list-Inv-loop list-μ-loop
 list-shared-slice-read-left t c =
     let p = c .before .before .before .pre .1 .0 in
@@ -691,26 +710,12 @@ list-same-length t c = c .before .before .before .before .before .before .before
 
 list-returns : (t : ℕ) → list-lts.Need-returns (list-claims t) (list-at t) list.Post list-Inv-loop list-μ-loop
 list-returns t c =
-    λ t h.
-    let s = c .before .before .before .before .before .before .before .before .before .before .before .before .before .before .before .before .before .before .before in
+    λ tree h.
     let l = c .before .before .before .before .before .before .before .before .before .before .before .before .before .before .before .loop in
-    let G = l .inv .1 .1 .1 t h in
+    let G = l .inv .1 .1 .1 tree h in
     let some = c .before .before .before .before .before .before .before .before .before .before .before .before .before .before .loop-test .taken in
-    let x = walks.going-next G some in
-    let e = c .before .before .before .before .before .before .before .before .before .before .before .before .before .statement-end .ensures (x .head) (x .head-is) in
-    let f = walks.going-part G some (c .before .before .before .before .before .before .before .before .before .before .before .before .before .statement-end .result) e in
     let k = walks.kind-below (walks.going-kind G some) (c .before .before .before .before .before .before .before .before .before .before .before .if1 .taken) in
-    let p = s .pre .1 .0 in
-    let own = walks.going-own G some k in
-    let src = c .before .before .before .before .before .before .before .source .ensures (x .head) f in
-    let w = l .inv .1 .1 .1 (p .tree) (p .is) in
-    let y = walks.going-next w some in
-    let ky = walks.kind-below (walks.going-kind w some) (c .before .before .before .before .before .before .before .before .before .before .before .if1 .taken) in
-    let wy = walks.going-statement w some (p .within) in
-    let ey = c .before .before .before .before .before .before .before .before .before .before .before .before .before .statement-end .ensures (y .head) (y .head-is) in
-    let own-cell = there (l .s .cells) (getD (s .args .words .now) (l .at + 1) 0) _ (omega (arith, l .inv .1 .1 .0, walks.going-own w some ky, target-below (y .head) wy ky, s .pre .1 .1 .0)) in
-    let read-cell = there (l .s .cells) (c .before .before .before .before .before .before .before .source .result) _ (omega (arith, l .inv .1 .1 .0, c .before .before .before .before .before .before .before .source .ensures (y .head) (walks.going-part w some (c .before .before .before .before .before .before .before .before .before .before .before .before .before .statement-end .result) ey), source-below (y .head) wy ky, s .pre .1 .1 .0)) in
-    let j = walks.going-over G some k _ _ (ap (λ (z : Cell). z .range) own-cell ∙ ap (λ (v : ℕ). states.get (l .s) v) own) (ap (λ (z : Cell). z .range) read-cell ∙ ap (λ (v : ℕ). states.get (l .s) v) src) (c .before .before .before .before .before .before .before .before .before .before .if2 .taken) (sym (c .before .enum-told .given .1) ∙ c .before .before .before .change .ensures (x .head) f) in
+    let j = walks.going-over G some k (c .before .before .before .before .before .before .before .before .before .before .if2 .taken) (sym (c .before .enum-told .given .1) ∙ list-change t (c .before .before .before) tree h) in
     record { out = c .refused .ensures ∙ j .out; marks = j .marks }
 
 list-enum-told-2 : (t : ℕ) → list-lts.Need-enum-told-2 (list-claims t) (list-at t) list.Post list-Inv-loop list-μ-loop
@@ -723,38 +728,23 @@ list-loop-less : (t : ℕ) → list-lts.Need-loop-less (list-claims t) (list-at 
 list-loop-less t c = omega (arith, c .before .before .before .before .before .before .before .before .before .before .before .before .before .before .before .before .before .loop-test .taken)
 
 list-loop-again : (t : ℕ) → list-lts.Need-loop-again (list-claims t) (list-at t) list.Post list-Inv-loop list-μ-loop
-list-loop-again t c =
-    let p = c .before .before .before .before .before .before .before .before .before .before .before .before .before .before .before .before .before .before .before .before .before .before .pre .1 .0 in
-    let w0 = c .before .before .before .before .before .before .before .before .before .before .before .before .before .before .before .before .before .before .loop .inv .1 .1 .1 (p .tree) (p .is) in
-    let x0 = walks.going-next w0 (c .before .before .before .before .before .before .before .before .before .before .before .before .before .before .before .before .before .loop-test .taken) in (
-      omega (arith, c .before .before .before .before .before .before .before .before .before .before .before .before .before .before .before .before .statement-end .ensures (x0 .head) (x0 .head-is), statement-some (x0 .head)),
-      (
-        c .before .before .before .before .before .before .before .before .before .before .before .before .before .before .before .before .before .before .loop .inv .1 .0,
-        (
-          rw (c .empty .ensures),
-          λ t h.
-              let s = c .before .before .before .before .before .before .before .before .before .before .before .before .before .before .before .before .before .before .before .before .before .before in
-              let l = c .before .before .before .before .before .before .before .before .before .before .before .before .before .before .before .before .before .before .loop in
-              let G = l .inv .1 .1 .1 t h in
-              let some = c .before .before .before .before .before .before .before .before .before .before .before .before .before .before .before .before .before .loop-test .taken in
-              let x = walks.going-next G some in
-              let e = c .before .before .before .before .before .before .before .before .before .before .before .before .before .before .before .before .statement-end .ensures (x .head) (x .head-is) in
-              let f = walks.going-part G some (c .before .before .before .before .before .before .before .before .before .before .before .before .before .before .before .before .statement-end .result) e in
-              let k = walks.kind-below (walks.going-kind G some) (c .before .before .before .before .before .before .before .before .before .before .before .before .before .before .if1 .taken) in
-              let p = s .pre .1 .0 in
-              let own = walks.going-own G some k in
-              let src = c .before .before .before .before .before .before .before .before .before .before .source .ensures (x .head) f in
-              let w = l .inv .1 .1 .1 (p .tree) (p .is) in
-              let y = walks.going-next w some in
-              let ky = walks.kind-below (walks.going-kind w some) (c .before .before .before .before .before .before .before .before .before .before .before .before .before .before .if1 .taken) in
-              let wy = walks.going-statement w some (p .within) in
-              let ey = c .before .before .before .before .before .before .before .before .before .before .before .before .before .before .before .before .statement-end .ensures (y .head) (y .head-is) in
-              let own-cell = there (l .s .cells) (getD (s .args .words .now) (l .at + 1) 0) _ (omega (arith, l .inv .1 .1 .0, walks.going-own w some ky, target-below (y .head) wy ky, s .pre .1 .1 .0)) in
-              let read-cell = there (l .s .cells) (c .before .before .before .before .before .before .before .before .before .before .source .result) _ (omega (arith, l .inv .1 .1 .0, c .before .before .before .before .before .before .before .before .before .before .source .ensures (y .head) (walks.going-part w some (c .before .before .before .before .before .before .before .before .before .before .before .before .before .before .before .before .statement-end .result) ey), source-below (y .head) wy ky, s .pre .1 .1 .0)) in
-              walks.going-changed G some k _ _ (ap (λ (z : Cell). z .range) own-cell ∙ ap (λ (v : ℕ). states.get (l .s) v) own) (ap (λ (z : Cell). z .range) read-cell ∙ ap (λ (v : ℕ). states.get (l .s) v) src) (c .before .before .before .before .before .before .before .before .before .before .before .before .before .before .before .before .statement-end .result) e (sym (c .before .before .before .before .range .given .1) ∙ c .before .before .before .before .before .before .change .ensures (x .head) f) (c .empty .result) (c .empty .ensures ∙ put-none (l .s) (plain.target (x .head)) (c .before .before .before .before .before .before .before .before .before .before .before .before .before .if2 .taken) (c .before .enum-told2 .given .1)),
-        ),
-      ),
-    )
+list-loop-again t c = (
+  omega (arith, list-room t (c .before .before .before .before .before .before .before .before .before .before .before .before .before .before .before .before)),
+  (
+    c .before .before .before .before .before .before .before .before .before .before .before .before .before .before .before .before .before .before .loop .inv .1 .0,
+    (
+      rw (c .empty .ensures),
+      λ tree h.
+          let l = c .before .before .before .before .before .before .before .before .before .before .before .before .before .before .before .before .before .before .loop in
+          let G = l .inv .1 .1 .1 tree h in
+          let some = c .before .before .before .before .before .before .before .before .before .before .before .before .before .before .before .before .before .loop-test .taken in
+          let x = walks.going-next G some in
+          let e = c .before .before .before .before .before .before .before .before .before .before .before .before .before .before .before .before .statement-end .ensures (x .head) (x .head-is) in
+          let k = walks.kind-below (walks.going-kind G some) (c .before .before .before .before .before .before .before .before .before .before .before .before .before .before .if1 .taken) in
+          walks.going-changed G some k (c .before .before .before .before .before .before .before .before .before .before .before .before .before .before .before .before .statement-end .result) e (sym (c .before .before .before .before .range .given .1) ∙ list-change t (c .before .before .before .before .before .before) tree h) (c .empty .result) (c .empty .ensures ∙ put-none (l .s) (plain.target (x .head)) (c .before .before .before .before .before .before .before .before .before .before .before .before .before .if2 .taken) (c .before .enum-told2 .given .1)),
+    ),
+  ),
+)
 
 list-enum-told-3 : (t : ℕ) → list-lts.Need-enum-told-3 (list-claims t) (list-at t) list.Post list-Inv-loop list-μ-loop
 list-enum-told-3 t c = search needs
@@ -769,65 +759,47 @@ list-loop-less-2 : (t : ℕ) → list-lts.Need-loop-less-2 (list-claims t) (list
 list-loop-less-2 t c = omega (arith, c .before .before .before .before .before .before .before .before .before .before .before .before .before .before .before .before .loop-test .taken)
 
 list-loop-again-2 : (t : ℕ) → list-lts.Need-loop-again-2 (list-claims t) (list-at t) list.Post list-Inv-loop list-μ-loop
-list-loop-again-2 t c =
-    let p = c .before .before .before .before .before .before .before .before .before .before .before .before .before .before .before .before .before .before .before .before .before .pre .1 .0 in
-    let w0 = c .before .before .before .before .before .before .before .before .before .before .before .before .before .before .before .before .before .loop .inv .1 .1 .1 (p .tree) (p .is) in
-    let x0 = walks.going-next w0 (c .before .before .before .before .before .before .before .before .before .before .before .before .before .before .before .before .loop-test .taken) in (
-      omega (arith, c .before .before .before .before .before .before .before .before .before .before .before .before .before .before .before .statement-end .ensures (x0 .head) (x0 .head-is), statement-some (x0 .head)),
-      (
-        c .before .before .before .before .before .before .before .before .before .before .before .before .before .before .before .before .before .loop .inv .1 .0,
-        (
-          simp length-set (c .before .before .before .before .before .before .before .before .before .before .before .before .before .before .before .before .before .loop .inv .1 .1 .0),
-          λ t h.
-              let s = c .before .before .before .before .before .before .before .before .before .before .before .before .before .before .before .before .before .before .before .before .before in
-              let l = c .before .before .before .before .before .before .before .before .before .before .before .before .before .before .before .before .before .loop in
-              let G = l .inv .1 .1 .1 t h in
-              let some = c .before .before .before .before .before .before .before .before .before .before .before .before .before .before .before .before .loop-test .taken in
-              let x = walks.going-next G some in
-              let e = c .before .before .before .before .before .before .before .before .before .before .before .before .before .before .before .statement-end .ensures (x .head) (x .head-is) in
-              let f = walks.going-part G some (c .before .before .before .before .before .before .before .before .before .before .before .before .before .before .before .statement-end .result) e in
-              let k = walks.kind-below (walks.going-kind G some) (c .before .before .before .before .before .before .before .before .before .before .before .before .before .if1 .taken) in
-              let p = s .pre .1 .0 in
-              let own = walks.going-own G some k in
-              let src = c .before .before .before .before .before .before .before .before .before .source .ensures (x .head) f in
-              let w = l .inv .1 .1 .1 (p .tree) (p .is) in
-              let y = walks.going-next w some in
-              let ky = walks.kind-below (walks.going-kind w some) (c .before .before .before .before .before .before .before .before .before .before .before .before .before .if1 .taken) in
-              let wy = walks.going-statement w some (p .within) in
-              let ey = c .before .before .before .before .before .before .before .before .before .before .before .before .before .before .before .statement-end .ensures (y .head) (y .head-is) in
-              let own-cell = there (l .s .cells) (getD (s .args .words .now) (l .at + 1) 0) _ (omega (arith, l .inv .1 .1 .0, walks.going-own w some ky, target-below (y .head) wy ky, s .pre .1 .1 .0)) in
-              let read-cell = there (l .s .cells) (c .before .before .before .before .before .before .before .before .before .source .result) _ (omega (arith, l .inv .1 .1 .0, c .before .before .before .before .before .before .before .before .before .source .ensures (y .head) (walks.going-part w some (c .before .before .before .before .before .before .before .before .before .before .before .before .before .before .before .statement-end .result) ey), source-below (y .head) wy ky, s .pre .1 .1 .0)) in
-              walks.going-changed G some k _ _ (ap (λ (z : Cell). z .range) own-cell ∙ ap (λ (v : ℕ). states.get (l .s) v) own) (ap (λ (z : Cell). z .range) read-cell ∙ ap (λ (v : ℕ). states.get (l .s) v) src) (c .before .before .before .before .before .before .before .before .before .before .before .before .before .before .before .statement-end .result) e (sym (c .before .before .before .range .given .1) ∙ c .before .before .before .before .before .change .ensures (x .head) f) _ (put-span (l .s) (getD (s .args .words .now) (l .at + 1) 0) (c .before .before .before .before .before .before .before .before .before .before .before .before .if2 .taken) (c .enum-told3 .given .1) ∙ ap (λ (v : ℕ). states.put (l .s) v (c .before .before .before .range .given .0 .0)) own),
-        ),
-      ),
-    )
+list-loop-again-2 t c = (
+  omega (arith, list-room t (c .before .before .before .before .before .before .before .before .before .before .before .before .before .before .before)),
+  (
+    c .before .before .before .before .before .before .before .before .before .before .before .before .before .before .before .before .before .loop .inv .1 .0,
+    (
+      simp length-set (c .before .before .before .before .before .before .before .before .before .before .before .before .before .before .before .before .before .loop .inv .1 .1 .0),
+      λ tree h.
+          let s = c .before .before .before .before .before .before .before .before .before .before .before .before .before .before .before .before .before .before .before .before .before in
+          let l = c .before .before .before .before .before .before .before .before .before .before .before .before .before .before .before .before .before .loop in
+          let G = l .inv .1 .1 .1 tree h in
+          let some = c .before .before .before .before .before .before .before .before .before .before .before .before .before .before .before .before .loop-test .taken in
+          let x = walks.going-next G some in
+          let e = c .before .before .before .before .before .before .before .before .before .before .before .before .before .before .before .statement-end .ensures (x .head) (x .head-is) in
+          let k = walks.kind-below (walks.going-kind G some) (c .before .before .before .before .before .before .before .before .before .before .before .before .before .if1 .taken) in
+          let own = walks.going-own G some k in
+          walks.going-changed G some k (c .before .before .before .before .before .before .before .before .before .before .before .before .before .before .before .statement-end .result) e (sym (c .before .before .before .range .given .1) ∙ list-change t (c .before .before .before .before .before) tree h) _ (put-span (l .s) (getD (s .args .words .now) (l .at + 1) 0) (c .before .before .before .before .before .before .before .before .before .before .before .before .if2 .taken) (c .enum-told3 .given .1) ∙ ap (λ (v : ℕ). states.put (l .s) v (c .before .before .before .range .given .0 .0)) own),
+    ),
+  ),
+)
 
 list-loop-less-3 : (t : ℕ) → list-lts.Need-loop-less-3 (list-claims t) (list-at t) list.Post list-Inv-loop list-μ-loop
 list-loop-less-3 t c = omega (arith, c .before .before .before .before .loop-test .taken)
 
 list-loop-again-3 : (t : ℕ) → list-lts.Need-loop-again-3 (list-claims t) (list-at t) list.Post list-Inv-loop list-μ-loop
-list-loop-again-3 t c =
-    let p = c .before .before .before .before .before .before .before .before .before .pre .1 .0 in
-    let w0 = c .before .before .before .before .before .loop .inv .1 .1 .1 (p .tree) (p .is) in
-    let x0 = walks.going-next w0 (c .before .before .before .before .loop-test .taken) in (
-      omega (arith, c .before .before .before .statement-end .ensures (x0 .head) (x0 .head-is), statement-some (x0 .head)),
-      (
-        c .before .before .before .before .before .loop .inv .1 .0,
-        (
-          c .before .before .before .before .before .loop .inv .1 .1 .0,
-          λ t h.
-              let s = c .before .before .before .before .before .before .before .before .before in
-              let l = c .before .before .before .before .before .loop in
-              let G = l .inv .1 .1 .1 t h in
-              let some = c .before .before .before .before .loop-test .taken in
-              let x = walks.going-next G some in
-              let e = c .before .before .before .statement-end .ensures (x .head) (x .head-is) in
-              let f = walks.going-part G some (c .before .before .before .statement-end .result) e in
-              let k = walks.kind-below (walks.going-kind G some) (c .before .if1 .taken) in
-              walks.going-dead G some k (c .before .before .before .statement-end .result) e (c .if2 .left),
-        ),
-      ),
-    )
+list-loop-again-3 t c = (
+  omega (arith, list-room t (c .before .before .before)),
+  (
+    c .before .before .before .before .before .loop .inv .1 .0,
+    (
+      c .before .before .before .before .before .loop .inv .1 .1 .0,
+      λ t h.
+          let l = c .before .before .before .before .before .loop in
+          let G = l .inv .1 .1 .1 t h in
+          let some = c .before .before .before .before .loop-test .taken in
+          let x = walks.going-next G some in
+          let e = c .before .before .before .statement-end .ensures (x .head) (x .head-is) in
+          let k = walks.kind-below (walks.going-kind G some) (c .before .if1 .taken) in
+          walks.going-dead G some k (c .before .before .before .statement-end .result) e (c .if2 .left),
+    ),
+  ),
+)
 
 list-mul-statement : (t : ℕ) → list-lts.Need-mul-statement (list-claims t) (list-at t) list.Post list-Inv-loop list-μ-loop
 list-mul-statement t c = omega (arith, list-room t (c .before .before))
@@ -890,27 +862,23 @@ list-loop-less-4 : (t : ℕ) → list-lts.Need-loop-less-4 (list-claims t) (list
 list-loop-less-4 t c = omega (arith, c .before .before .before .before .before .before .before .before .before .before .before .loop-test .taken)
 
 list-loop-again-4 : (t : ℕ) → list-lts.Need-loop-again-4 (list-claims t) (list-at t) list.Post list-Inv-loop list-μ-loop
-list-loop-again-4 t c =
-    let p = c .before .before .before .before .before .before .before .before .before .before .before .before .before .before .before .before .pre .1 .0 in
-    let w0 = c .before .before .before .before .before .before .before .before .before .before .before .before .loop .inv .1 .1 .1 (p .tree) (p .is) in
-    let x0 = walks.going-next w0 (c .before .before .before .before .before .before .before .before .before .before .before .loop-test .taken) in (
-      omega (arith, c .before .before .before .before .before .before .before .before .before .before .statement-end .ensures (x0 .head) (x0 .head-is), statement-some (x0 .head)),
-      (
-        c .before .before .before .before .before .statement .kept .1 .1 .1 .1 .1 .0 ∙ c .before .before .before .before .before .before .before .before .before .before .before .before .loop .inv .1 .0,
-        (
-          answer-long (c .before .before .before .before .before .statement .result) (c .before .before .before .before .before .statement .ok),
-          λ t h.
-              let s = c .before .before .before .before .before .before .before .before .before .before .before .before .before .before .before .before in
-              let l = c .before .before .before .before .before .before .before .before .before .before .before .before .loop in
-              let G = l .inv .1 .1 .1 t h in
-              let some = c .before .before .before .before .before .before .before .before .before .before .before .loop-test .taken in
-              let x = walks.going-next G some in
-              let e = c .before .before .before .before .before .before .before .before .before .before .statement-end .ensures (x .head) (x .head-is) in
-              let f = walks.going-part G some (c .before .before .before .before .before .before .before .before .before .before .statement-end .result) e in
-              walks.going-good G some (c .before .before .before .before .before .statement .ensures (x .head) f) (c .before .before .before .before .before .before .before .before .before .before .statement-end .result) e (c .before .enum-told5 .given .1),
-        ),
-      ),
-    )
+list-loop-again-4 t c = (
+  omega (arith, list-room t (c .before .before .before .before .before .before .before .before .before .before)),
+  (
+    c .before .before .before .before .before .statement .kept .1 .1 .1 .1 .1 .0 ∙ c .before .before .before .before .before .before .before .before .before .before .before .before .loop .inv .1 .0,
+    (
+      answer-long (c .before .before .before .before .before .statement .result) (c .before .before .before .before .before .statement .ok),
+      λ t h.
+          let l = c .before .before .before .before .before .before .before .before .before .before .before .before .loop in
+          let G = l .inv .1 .1 .1 t h in
+          let some = c .before .before .before .before .before .before .before .before .before .before .before .loop-test .taken in
+          let x = walks.going-next G some in
+          let e = c .before .before .before .before .before .before .before .before .before .before .statement-end .ensures (x .head) (x .head-is) in
+          let f = walks.going-part G some (c .before .before .before .before .before .before .before .before .before .before .statement-end .result) e in
+          walks.going-good G some (c .before .before .before .before .before .statement .ensures (x .head) f) (c .before .before .before .before .before .before .before .before .before .before .statement-end .result) e (c .before .enum-told5 .given .1),
+    ),
+  ),
+)
 
 list-good-requires : (t : ℕ) → list-lts.Need-good-requires (list-claims t) (list-at t) list.Post list-Inv-loop list-μ-loop
 list-good-requires t c κs = tt
