@@ -894,6 +894,25 @@ list-returns-3 t c =
     let j = walks.going-last (l .inv .1 .1 .1 t h) (omega (arith, c .before .loop-test .left)) in
     record { out = c .good2 .ensures ∙ j .out; marks = j .marks }
 
+-- what the search found, where it was not refused, and so how many passes are unrolled
+looped-found : (t : ℕ) (c : looped-lts.After-enum-told (looped-claims t) (looped-at t) looped.Post) (u : Unroll) (e : Event) (b : Statements) (h : c .before .before .before .before .before .before .before .before .before .args .words .now ≡ code.statement (While u e b)) → turns-laws.Finds (noted.search (setting (c .before .before .before .before .before .before .before .before .before .args .n) (c .before .before .before .before .before .before .before .before .before .args .unroll)) (c .before .before .before .before .before .before .before .before .before .args .base) e b 100 0 (c .before .before .before .before .before .before .before .before .before .args .state) .answer) (c .before .before .before .before .before .search .result)
+looped-found t c u e b h = turns-laws.finds (noted.search (setting (c .before .before .before .before .before .before .before .before .before .args .n) (c .before .before .before .before .before .before .before .before .before .args .unroll)) (c .before .before .before .before .before .before .before .before .before .args .base) e b 100 0 (c .before .before .before .before .before .before .before .before .before .args .state) .answer) (c .before .before .before .before .before .search .ensures u e b h .out) (sym (c .before .before .refusal .ensures) ∙ c .enum-told .given .1)
+
+looped-many : (t : ℕ) (c : looped-lts.After-unrolls (looped-claims t) (looped-at t) looped.Post) (u : Unroll) (e : Event) (b : Statements) (h : c .before .before .before .before .before .before .before .before .before .before .before .args .words .now ≡ code.statement (While u e b)) → c .unrolls .result ≡ rules.unroll-passes (rules.turns (setting (c .before .before .before .before .before .before .before .before .before .before .before .args .n) (c .before .before .before .before .before .before .before .before .before .before .before .args .unroll)) u) (looped-found t (c .before .before) u e b h .found)
+looped-many t c u e b h = c .unrolls .ensures ∙ ap (λ (k : ℕ). stages.unrolls-by k (c .before .before .before .before .before .before .before .search .result)) (c .before .turns .ensures u e b h) ∙ looped-found t (c .before .before) u e b h .unrolls (rules.turns (setting (c .before .before .before .before .before .before .before .before .before .before .before .args .n) (c .before .before .before .before .before .before .before .before .before .before .before .args .unroll)) u)
+
+-- a loop whose search and unrolled passes were not refused goes on to settle
+looped-turned : (t : ℕ) (c : looped-lts.After-enum-told2 (looped-claims t) (looped-at t) looped.Post) (u : Unroll) (e : Event) (b : Statements) (h : c .before .before .before .before .before .before .before .before .before .before .before .before .before .before .before .before .before .args .words .now ≡ code.statement (While u e b)) →
+    Leads outcomes.looped (noted.loop (setting (c .before .before .before .before .before .before .before .before .before .before .before .before .before .before .before .before .before .args .n) (c .before .before .before .before .before .before .before .before .before .before .before .before .before .before .before .before .before .args .unroll)) (c .before .before .before .before .before .before .before .before .before .before .before .before .before .before .before .before .before .args .base) e b (rules.turns (setting (c .before .before .before .before .before .before .before .before .before .before .before .before .before .before .before .before .before .args .n) (c .before .before .before .before .before .before .before .before .before .before .before .before .before .before .before .before .before .args .unroll)) u) (c .before .before .before .before .before .before .before .before .before .before .before .before .before .before .before .before .before .args .state)) (c .before .before .before .before .before .before .before .before .before .before .before .before .before .before .before .before .before .args .marks .now)
+    (turns-laws.settles (setting (c .before .before .before .before .before .before .before .before .before .before .before .before .before .before .before .before .before .args .n) (c .before .before .before .before .before .before .before .before .before .before .before .before .before .before .before .before .before .args .unroll)) (c .before .before .before .before .before .before .before .before .before .before .before .before .before .before .before .before .before .args .base) e b (rules.turns (setting (c .before .before .before .before .before .before .before .before .before .before .before .before .before .before .before .before .before .args .n) (c .before .before .before .before .before .before .before .before .before .before .before .before .before .before .before .before .before .args .unroll)) u) (c .before .before .before .before .before .before .before .before .before .before .before .before .before .before .before .before .before .args .state) (looped-found t (c .before .before .before .before .before .before .before .before) u e b h .found) (record { next = c .before .before .before .before .unrolled .result .next; exit = c .before .before .before .before .unrolled .result .exit })) (c .before .before .before .before .unrolled .last .1 .1 .1 .1 .1 .1 .0)
+looped-turned t c u e b h =
+    let s = c .before .before .before .before .before .before .before .before .before .before .before .before .before .before .before .before .before in
+    let g = setting (s .args .n) (s .args .unroll) in
+    let U = rules.turns g u in
+    let f = looped-found t (c .before .before .before .before .before .before .before .before) u e b h in
+    leads-then (turns-laws.loop-searched g (s .args .base) e b U (s .args .state) (c .before .before .before .before .before .before .before .before .before .before .before .before .before .search .ensures u e b h) f)
+    (turns-laws.loop-turned g (s .args .base) e b U (s .args .state) (f .found) (c .before .before .before .before .before .before .unrolls .result) (looped-many t (c .before .before .before .before .before .before) u e b h) (c .before .before .before .before .unrolled .ensures u e b h) (c .enum-told2 .given .1))
+
 looped-search-requires : (t : ℕ) → looped-lts.Need-search-requires (looped-claims t) (looped-at t) looped.Post
 looped-search-requires t c κs =
     let s = c .before .before .before in
@@ -949,14 +968,9 @@ looped-returns-2 t c =
     let s = c .before .before .before .before .before .before .before .before .before .before .before .before .before .before .before .before .before .before .before in
     let g = setting (s .args .n) (s .args .unroll) in
     let U = rules.turns g u in
-    let q = c .before .before .before .before .before .before .before .before .before .before .before .before .before .before .before .search .ensures u e b h in
-    let f = turns-laws.finds (noted.search g (s .args .base) e b 100 0 (s .args .state) .answer) (q .out) (sym (c .before .before .before .before .before .before .before .before .before .before .before .before .refusal .ensures) ∙ c .before .before .before .before .before .before .before .before .before .before .enum-told .given .1) in
-    let on = turns-laws.loop-searched g (s .args .base) e b U (s .args .state) q f in
-    let own = c .before .before .before .before .before .before .before .before .before .turns .ensures u e b h in
-    let many : c .before .before .before .before .before .before .before .before .unrolls .result ≡ rules.unroll-passes U (f .found) = c .before .before .before .before .before .before .before .before .unrolls .ensures ∙ ap (λ (k : ℕ). stages.unrolls-by k (c .before .before .before .before .before .before .before .before .before .before .before .before .before .before .before .search .result)) own ∙ f .unrolls U in
-    let t = c .before .before .before .before .before .before .unrolled .ensures u e b h in
-    let count = c .before .before .before .before .before .before .before .before .unrolls .result in
-    rw (c .no-loop2 .ensures) (on .on _ _ (turns-laws.loop-unturned g (s .args .base) e b U (s .args .state) (f .found) count many t (c .before .before .turning .given .1)))
+    let f = looped-found t (c .before .before .before .before .before .before .before .before .before .before) u e b h in
+    let on = turns-laws.loop-searched g (s .args .base) e b U (s .args .state) (c .before .before .before .before .before .before .before .before .before .before .before .before .before .before .before .search .ensures u e b h) f in
+    rw (c .no-loop2 .ensures) (on .on _ _ (turns-laws.loop-unturned g (s .args .base) e b U (s .args .state) (f .found) (c .before .before .before .before .before .before .before .before .unrolls .result) (looped-many t (c .before .before .before .before .before .before .before .before) u e b h) (c .before .before .before .before .before .before .unrolled .ensures u e b h) (c .before .before .turning .given .1)))
 
 looped-enum-told-2 : (t : ℕ) → looped-lts.Need-enum-told-2 (looped-claims t) (looped-at t) looped.Post
 looped-enum-told-2 t c = search needs
@@ -981,17 +995,11 @@ looped-returns-3 t c =
     let s = c .before .before .before .before .before .before .before .before .before .before .before .before .before .before .before .before .before .before .before .before .before .before .before .before .before .before in
     let g = setting (s .args .n) (s .args .unroll) in
     let U = rules.turns g u in
-    let q = c .before .before .before .before .before .before .before .before .before .before .before .before .before .before .before .before .before .before .before .before .before .before .search .ensures u e b h in
-    let f = turns-laws.finds (noted.search g (s .args .base) e b 100 0 (s .args .state) .answer) (q .out) (sym (c .before .before .before .before .before .before .before .before .before .before .before .before .before .before .before .before .before .before .before .refusal .ensures) ∙ c .before .before .before .before .before .before .before .before .before .before .before .before .before .before .before .before .before .enum-told .given .1) in
-    let on = turns-laws.loop-searched g (s .args .base) e b U (s .args .state) q f in
-    let own = c .before .before .before .before .before .before .before .before .before .before .before .before .before .before .before .before .turns .ensures u e b h in
-    let many : c .before .before .before .before .before .before .before .before .before .before .before .before .before .before .before .unrolls .result ≡ rules.unroll-passes U (f .found) = c .before .before .before .before .before .before .before .before .before .before .before .before .before .before .before .unrolls .ensures ∙ ap (λ (k : ℕ). stages.unrolls-by k (c .before .before .before .before .before .before .before .before .before .before .before .before .before .before .before .before .before .before .before .before .before .before .search .result)) own ∙ f .unrolls U in
-    let t = c .before .before .before .before .before .before .before .before .before .before .before .before .before .unrolled .ensures u e b h in
-    let count = c .before .before .before .before .before .before .before .before .before .before .before .before .before .before .before .unrolls .result in
+    let f = looped-found t (c .before .before .before .before .before .before .before .before .before .before .before .before .before .before .before .before .before) u e b h in
     let was : rules.Pass = record { next = c .before .before .before .before .before .before .before .before .before .before .before .before .before .unrolled .result .next; exit = c .before .before .before .before .before .before .before .before .before .before .before .before .before .unrolled .result .exit } in
-    let on2 = leads-then on (turns-laws.loop-turned g (s .args .base) e b U (s .args .state) (f .found) count many t (c .before .before .before .before .before .before .before .before .before .enum-told2 .given .1)) in
+    let on = looped-turned t (c .before .before .before .before .before .before .before .before .before) u e b h in
     let m = c .before .before .before .before .before .before .settle .ensures u e b h in
-    rw (c .no-loop3 .ensures) (on2 .on _ _ (turns-laws.loop-unsettled g (s .args .base) e b U (s .args .state) (f .found) was m (c .before .before .settling .given .1)))
+    rw (c .no-loop3 .ensures) (on .on _ _ (turns-laws.loop-unsettled g (s .args .base) e b U (s .args .state) (f .found) was m (c .before .before .settling .given .1)))
 
 looped-enum-told-3 : (t : ℕ) → looped-lts.Need-enum-told-3 (looped-claims t) (looped-at t) looped.Post
 looped-enum-told-3 t c = search needs
@@ -1016,18 +1024,12 @@ looped-returns-4 t c =
     let s = c .before .before .before .before .before .before .before .before .before .before .before .before .before .before .before .before .before .before .before .before .before .before .before .before .before .before .before .before .before .before in
     let g = setting (s .args .n) (s .args .unroll) in
     let U = rules.turns g u in
-    let q = c .before .before .before .before .before .before .before .before .before .before .before .before .before .before .before .before .before .before .before .before .before .before .before .before .before .before .search .ensures u e b h in
-    let f = turns-laws.finds (noted.search g (s .args .base) e b 100 0 (s .args .state) .answer) (q .out) (sym (c .before .before .before .before .before .before .before .before .before .before .before .before .before .before .before .before .before .before .before .before .before .before .before .refusal .ensures) ∙ c .before .before .before .before .before .before .before .before .before .before .before .before .before .before .before .before .before .before .before .before .before .enum-told .given .1) in
-    let on = turns-laws.loop-searched g (s .args .base) e b U (s .args .state) q f in
-    let own = c .before .before .before .before .before .before .before .before .before .before .before .before .before .before .before .before .before .before .before .before .turns .ensures u e b h in
-    let many : c .before .before .before .before .before .before .before .before .before .before .before .before .before .before .before .before .before .before .before .unrolls .result ≡ rules.unroll-passes U (f .found) = c .before .before .before .before .before .before .before .before .before .before .before .before .before .before .before .before .before .before .before .unrolls .ensures ∙ ap (λ (k : ℕ). stages.unrolls-by k (c .before .before .before .before .before .before .before .before .before .before .before .before .before .before .before .before .before .before .before .before .before .before .before .before .before .before .search .result)) own ∙ f .unrolls U in
-    let t = c .before .before .before .before .before .before .before .before .before .before .before .before .before .before .before .before .before .unrolled .ensures u e b h in
-    let count = c .before .before .before .before .before .before .before .before .before .before .before .before .before .before .before .before .before .before .before .unrolls .result in
+    let f = looped-found t (c .before .before .before .before .before .before .before .before .before .before .before .before .before .before .before .before .before .before .before .before .before) u e b h in
     let was : rules.Pass = record { next = c .before .before .before .before .before .before .before .before .before .before .before .before .before .before .before .before .before .unrolled .result .next; exit = c .before .before .before .before .before .before .before .before .before .before .before .before .before .before .before .before .before .unrolled .result .exit } in
-    let on2 = leads-then on (turns-laws.loop-turned g (s .args .base) e b U (s .args .state) (f .found) count many t (c .before .before .before .before .before .before .before .before .before .before .before .before .before .enum-told2 .given .1)) in
+    let on = looped-turned t (c .before .before .before .before .before .before .before .before .before .before .before .before .before) u e b h in
     let m = c .before .before .before .before .before .before .before .before .before .before .settle .ensures u e b h in
     let x = c .before .before .before .before .leave .ensures (s .args .unroll) u e b h in
-    rw (c .no-loop4 .ensures) (on2 .on _ _ (turns-laws.loop-unleft g (s .args .base) e b U (s .args .state) (f .found) was m (c .before .before .before .before .before .before .enum-told3 .given .1) (answered-refused _ x (c .before .before .leaving .given .1))))
+    rw (c .no-loop4 .ensures) (on .on _ _ (turns-laws.loop-unleft g (s .args .base) e b U (s .args .state) (f .found) was m (c .before .before .before .before .before .before .enum-told3 .given .1) (answered-refused _ x (c .before .before .leaving .given .1))))
 
 looped-enum-told-4 : (t : ℕ) → looped-lts.Need-enum-told-4 (looped-claims t) (looped-at t) looped.Post
 looped-enum-told-4 t c = search needs
@@ -1053,18 +1055,12 @@ looped-returns-5 t c =
     let s = c .before .before .before .before .before .before .before .before .before .before .before .before .before .before .before .before .before .before .before .before .before .before .before .before .before .before .before .before .before .before .before .before .before in
     let g = setting (s .args .n) (s .args .unroll) in
     let U = rules.turns g u in
-    let q = c .before .before .before .before .before .before .before .before .before .before .before .before .before .before .before .before .before .before .before .before .before .before .before .before .before .before .before .before .before .search .ensures u e b h in
-    let f = turns-laws.finds (noted.search g (s .args .base) e b 100 0 (s .args .state) .answer) (q .out) (sym (c .before .before .before .before .before .before .before .before .before .before .before .before .before .before .before .before .before .before .before .before .before .before .before .before .before .before .refusal .ensures) ∙ c .before .before .before .before .before .before .before .before .before .before .before .before .before .before .before .before .before .before .before .before .before .before .before .before .enum-told .given .1) in
-    let on = turns-laws.loop-searched g (s .args .base) e b U (s .args .state) q f in
-    let own = c .before .before .before .before .before .before .before .before .before .before .before .before .before .before .before .before .before .before .before .before .before .before .before .turns .ensures u e b h in
-    let many : c .before .before .before .before .before .before .before .before .before .before .before .before .before .before .before .before .before .before .before .before .before .before .unrolls .result ≡ rules.unroll-passes U (f .found) = c .before .before .before .before .before .before .before .before .before .before .before .before .before .before .before .before .before .before .before .before .before .before .unrolls .ensures ∙ ap (λ (k : ℕ). stages.unrolls-by k (c .before .before .before .before .before .before .before .before .before .before .before .before .before .before .before .before .before .before .before .before .before .before .before .before .before .before .before .before .before .search .result)) own ∙ f .unrolls U in
-    let t = c .before .before .before .before .before .before .before .before .before .before .before .before .before .before .before .before .before .before .before .before .unrolled .ensures u e b h in
-    let count = c .before .before .before .before .before .before .before .before .before .before .before .before .before .before .before .before .before .before .before .before .before .before .unrolls .result in
+    let f = looped-found t (c .before .before .before .before .before .before .before .before .before .before .before .before .before .before .before .before .before .before .before .before .before .before .before .before) u e b h in
     let was : rules.Pass = record { next = c .before .before .before .before .before .before .before .before .before .before .before .before .before .before .before .before .before .before .before .before .unrolled .result .next; exit = c .before .before .before .before .before .before .before .before .before .before .before .before .before .before .before .before .before .before .before .before .unrolled .result .exit } in
-    let on2 = leads-then on (turns-laws.loop-turned g (s .args .base) e b U (s .args .state) (f .found) count many t (c .before .before .before .before .before .before .before .before .before .before .before .before .before .before .before .before .enum-told2 .given .1)) in
+    let on = looped-turned t (c .before .before .before .before .before .before .before .before .before .before .before .before .before .before .before .before) u e b h in
     let m = c .before .before .before .before .before .before .before .before .before .before .before .before .before .settle .ensures u e b h in
     let x = c .before .before .before .before .before .before .before .leave .ensures (s .args .unroll) u e b h in
-    rw (c .loop-answer .ensures, c .before .before .join .ensures, c .before .searched .ensures, f .searched, many) (on2 .on _ _ (turns-laws.loop-left g (s .args .base) e b U (s .args .state) (f .found) was m (c .before .before .before .before .before .before .before .before .before .enum-told3 .given .1) (answered-good _ x (c .before .before .before .before .before .enum-told4 .given .1))))
+    rw (c .loop-answer .ensures, c .before .before .join .ensures, c .before .searched .ensures, f .searched, looped-many t (c .before .before .before .before .before .before .before .before .before .before .before .before .before .before .before .before .before .before .before .before .before .before) u e b h) (on .on _ _ (turns-laws.loop-left g (s .args .base) e b U (s .args .state) (f .found) was m (c .before .before .before .before .before .before .before .before .before .enum-told3 .given .1) (answered-good _ x (c .before .before .before .before .before .enum-told4 .given .1))))
 
 abbrev normalize-Inv-loop : normalize-lts.InvT-loop
 normalize-Inv-loop given place body base n unroll marks₀ state v left₀ x₀ joined₀ marks left x joined =
