@@ -39,7 +39,7 @@ use Rattle.analysis.specs.Loops as stages
 use Rattle.analysis.specs.Plain as plain
 use Rattle.analysis.proofs.Walks.{Going}
 use Rattle.analysis.proofs.Walks as walks
-use Rattle.analysis.proofs.Cuts.{branch-event, branch-then, branch-cut, loop-event, loop-cut, loop-is, loop-inside, loop-event-is, loop-body-is, normalize-long, normalize-cut}
+use Rattle.analysis.proofs.Cuts.{BranchCut, LoopCut, branch-event, branch-then, branch-cut, loop-event, loop-cut, loop-is, loop-inside, loop-event-is, loop-body-is, normalize-long, normalize-cut}
 use Rattle.analysis.proofs.Plains.{target-below, source-below}
 use Rattle.analysis.proofs.Given as given-laws
 use Rattle.analysis.proofs.Turns as turns-laws
@@ -234,6 +234,10 @@ unrolled-claims t =
 abbrev Room : ℕ → List ℕ → List ℕ → Type 0
 Room base words marks = (base + length words ≤ length marks) × ((length words * 8 < 2 ^ 64) × (base + length words < 2 ^ 64))
 
+-- the parts of an if that the words are
+branch-parts : (t : ℕ) (c : branch-lts.After-list-end (branch-claims t) (branch-at t) branch.Post) (x : Statement) → c .before .before .before .before .args .words .now ≡ code.statement x → BranchCut (c .before .before .before .before .args .words .now) (c .before .event-end .result) (c .list-end .result) x
+branch-parts t c x h = branch-cut (c .before .before .before .before .args .words .now) x h (c .before .before .before .before .pre .1 .1 .0) (c .before .event-end .result) (c .before .event-end .ensures) (c .list-end .result) (c .list-end .ensures)
+
 -- where the then-list and the else-list of an if stand, within the words and the marks
 branch-room : (t : ℕ) (c : branch-lts.After-list-end (branch-claims t) (branch-at t) branch.Post) →
     (1 < c .before .event-end .result) × ((c .before .event-end .result < c .list-end .result) × ((c .list-end .result < length (c .before .before .before .before .args .words .now)) ×
@@ -241,7 +245,7 @@ branch-room : (t : ℕ) (c : branch-lts.After-list-end (branch-claims t) (branch
 branch-room t c =
     let s = c .before .before .before .before in
     let p = s .pre .1 .0 in
-    let k = branch-cut (s .args .words .now) (p .tree) (p .is) (s .pre .1 .1 .0) (c .before .event-end .result) (c .before .event-end .ensures) (c .list-end .result) (c .list-end .ensures) in
+    let k = branch-parts t c (p .tree) (p .is) in
     (k .some, (omega (arith, k .q-is), (omega (arith, k .whole), (s .pre .1 .1 .1 .1 .1, (omega (arith, s .good .0 .0, s .good .0 .1), omega (arith, s .pre .1 .1 .1 .1 .1, s .good))))))
 
 branch-event-end-requires : (t : ℕ) → branch-lts.Need-event-end-requires (branch-claims t) (branch-at t) branch.Post
@@ -270,7 +274,7 @@ branch-sides-requires : (t : ℕ) → branch-lts.Need-sides-requires (branch-cla
 branch-sides-requires t c κs =
     let s = c .before .before .before .before .before in
     let p = s .pre .1 .0 in
-    let k = branch-cut (s .args .words .now) (p .tree) (p .is) (s .pre .1 .1 .0) (c .before .before .event-end .result) (c .before .before .event-end .ensures) (c .before .list-end .result) (c .before .list-end .ensures) in (
+    let k = branch-parts t (c .before) (p .tree) (p .is) in (
       record { tree = k .event; is = k .event-part; within = branch-bounds (k .same) (p .within) .0 },
       (s .pre .1 .1 .1 .0, omega (arith, ap length (k .event-part), k .p-is, k .q-is, k .whole, s .pre .1 .1 .1 .1 .1, s .good)),
     )
@@ -283,10 +287,10 @@ branch-refused-requires t c κs = tt
 
 branch-returns : (t : ℕ) → branch-lts.Need-returns (branch-claims t) (branch-at t) branch.Post
 branch-returns t c =
-    λ t h.
+    λ x h.
     let s = c .before .before .before .before .before .before .before .before .before .before in
     let g = setting (s .args .n) (s .args .unroll) in
-    let k = branch-cut (s .args .words .now) t h (s .pre .1 .1 .0) (c .before .before .before .before .before .before .before .event-end .result) (c .before .before .before .before .before .before .before .event-end .ensures) (c .before .before .before .before .before .before .list-end .result) (c .before .before .before .before .before .before .list-end .ensures) in
+    let k = branch-parts t (c .before .before .before .before .before .before) x h in
     let o = c .before .before .before .before .sides .ensures (s .args .unroll) (k .event) (k .event-part) in
     let j = walks.if-unsplit g (s .args .base) k (s .args .state) (c .before .before .before .before .sides .result) o (s .args .marks .now) (c .before .before .verdict .given .1) in
     record { out = c .refused .ensures ∙ j .out; marks = j .marks }
@@ -319,7 +323,7 @@ branch-list-requires : (t : ℕ) → branch-lts.Need-list-requires (branch-claim
 branch-list-requires t c κs =
     let s = c .before .before .before .before .before .before .before .before .before .before .before .before .before .before .before .before in
     let p = s .pre .1 .0 in
-    let k = branch-cut (s .args .words .now) (p .tree) (p .is) (s .pre .1 .1 .0) (c .before .before .before .before .before .before .before .before .before .before .before .before .before .event-end .result) (c .before .before .before .before .before .before .before .before .before .before .before .before .before .event-end .ensures) (c .before .before .before .before .before .before .before .before .before .before .before .before .list-end .result) (c .before .before .before .before .before .before .before .before .before .before .before .before .list-end .ensures) in (
+    let k = branch-parts t (c .before .before .before .before .before .before .before .before .before .before .before .before) (p .tree) (p .is) in (
       omega (arith, ap length (k .then-part), k .some, k .p-is, k .q-is, k .whole, s .pre .0),
       (
         record { tree = k .then-list; is = k .then-part; within = branch-bounds (k .same) (p .within) .1 },
@@ -335,10 +339,10 @@ branch-same-length t c = c .before .before .before .before .list .kept .1 .1 .1 
 
 branch-returns-2 : (t : ℕ) → branch-lts.Need-returns-2 (branch-claims t) (branch-at t) branch.Post
 branch-returns-2 t c =
-    λ t h.
+    λ x h.
     let s = c .before .before .before .before .before .before .before .before .before .before .before .before .before .before .before .before .before .before .before .before .before in
     let g = setting (s .args .n) (s .args .unroll) in
-    let k = branch-cut (s .args .words .now) t h (s .pre .1 .1 .0) (c .before .before .before .before .before .before .before .before .before .before .before .before .before .before .before .before .before .before .event-end .result) (c .before .before .before .before .before .before .before .before .before .before .before .before .before .before .before .before .before .before .event-end .ensures) (c .before .before .before .before .before .before .before .before .before .before .before .before .before .before .before .before .before .list-end .result) (c .before .before .before .before .before .before .before .before .before .before .before .before .before .before .before .before .before .list-end .ensures) in
+    let k = branch-parts t (c .before .before .before .before .before .before .before .before .before .before .before .before .before .before .before .before .before) x h in
     let o = c .before .before .before .before .before .before .before .before .before .before .before .before .before .before .before .sides .ensures (s .args .unroll) (k .event) (k .event-part) in
     let w = c .before .before .before .before .list .ensures (k .then-list) (k .then-part) in
     walks.if-then-refused g (s .args .base) k (s .args .state) (c .before .before .before .before .before .before .before .before .before .before .before .before .before .before .before .sides .result) o (s .args .marks .now) (c .before .before .before .before .before .before .before .before .before .before .before .before .before .enum-told .given .1) (c .before .before .before .before .before .before .before .before .before .mark .ensures) w (c .enum-told2 .given .1)
@@ -353,7 +357,7 @@ branch-mark-requires-2 : (t : ℕ) → branch-lts.Need-mark-requires-2 (branch-c
 branch-mark-requires-2 t c κs =
     let s = c .before .before .before .before .before .before .before .before .before .before .before .before .before .before .before .before .before .before .before .before .before .before in
     let p = s .pre .1 .0 in
-    let k = branch-cut (s .args .words .now) (p .tree) (p .is) (s .pre .1 .1 .0) (c .before .before .before .before .before .before .before .before .before .before .before .before .before .before .before .before .before .before .before .event-end .result) (c .before .before .before .before .before .before .before .before .before .before .before .before .before .before .before .before .before .before .before .event-end .ensures) (c .before .before .before .before .before .before .before .before .before .before .before .before .before .before .before .before .before .before .list-end .result) (c .before .before .before .before .before .before .before .before .before .before .before .before .before .before .before .before .before .before .list-end .ensures) in
+    let k = branch-parts t (c .before .before .before .before .before .before .before .before .before .before .before .before .before .before .before .before .before .before) (p .tree) (p .is) in
     omega (arith, k .some, k .p-is, k .q-is, k .whole, s .pre .1 .1 .1 .1 .1, c .before .before .before .before .before .before .before .before .before .before .mark .kept .0, c .before .before .before .before .before .list .kept .1 .1 .1 .1 .1 .0)
 
 branch-mul-list-2 : (t : ℕ) → branch-lts.Need-mul-list-2 (branch-claims t) (branch-at t) branch.Post
@@ -375,7 +379,7 @@ branch-list-requires-2 : (t : ℕ) → branch-lts.Need-list-requires-2 (branch-c
 branch-list-requires-2 t c κs =
     let s = c .before .before .before .before .before .before .before .before .before .before .before .before .before .before .before .before .before .before .before .before .before .before .before .before .before .before .before in
     let p = s .pre .1 .0 in
-    let k = branch-cut (s .args .words .now) (p .tree) (p .is) (s .pre .1 .1 .0) (c .before .before .before .before .before .before .before .before .before .before .before .before .before .before .before .before .before .before .before .before .before .before .before .before .event-end .result) (c .before .before .before .before .before .before .before .before .before .before .before .before .before .before .before .before .before .before .before .before .before .before .before .before .event-end .ensures) (c .before .before .before .before .before .before .before .before .before .before .before .before .before .before .before .before .before .before .before .before .before .before .before .list-end .result) (c .before .before .before .before .before .before .before .before .before .before .before .before .before .before .before .before .before .before .before .before .before .before .before .list-end .ensures) in (
+    let k = branch-parts t (c .before .before .before .before .before .before .before .before .before .before .before .before .before .before .before .before .before .before .before .before .before .before .before) (p .tree) (p .is) in (
       omega (arith, ap length (k .else-part), k .some, k .p-is, k .q-is, k .whole, s .pre .0),
       (
         record { tree = k .else-list; is = k .else-part; within = branch-bounds (k .same) (p .within) .2 },
@@ -391,10 +395,10 @@ branch-same-length-2 t c = c .before .before .before .before .list2 .kept .1 .1 
 
 branch-returns-3 : (t : ℕ) → branch-lts.Need-returns-3 (branch-claims t) (branch-at t) branch.Post
 branch-returns-3 t c =
-    λ t h.
+    λ x h.
     let s = c .before .before .before .before .before .before .before .before .before .before .before .before .before .before .before .before .before .before .before .before .before .before .before .before .before .before .before .before .before .before .before .before in
     let g = setting (s .args .n) (s .args .unroll) in
-    let k = branch-cut (s .args .words .now) t h (s .pre .1 .1 .0) (c .before .before .before .before .before .before .before .before .before .before .before .before .before .before .before .before .before .before .before .before .before .before .before .before .before .before .before .before .before .event-end .result) (c .before .before .before .before .before .before .before .before .before .before .before .before .before .before .before .before .before .before .before .before .before .before .before .before .before .before .before .before .before .event-end .ensures) (c .before .before .before .before .before .before .before .before .before .before .before .before .before .before .before .before .before .before .before .before .before .before .before .before .before .before .before .before .list-end .result) (c .before .before .before .before .before .before .before .before .before .before .before .before .before .before .before .before .before .before .before .before .before .before .before .before .before .before .before .before .list-end .ensures) in
+    let k = branch-parts t (c .before .before .before .before .before .before .before .before .before .before .before .before .before .before .before .before .before .before .before .before .before .before .before .before .before .before .before .before) x h in
     let o = c .before .before .before .before .before .before .before .before .before .before .before .before .before .before .before .before .before .before .before .before .before .before .before .before .before .before .sides .ensures (s .args .unroll) (k .event) (k .event-part) in
     let w = c .before .before .before .before .before .before .before .before .before .before .before .before .before .before .before .list .ensures (k .then-list) (k .then-part) in
     let v = c .before .before .before .before .list2 .ensures (k .else-list) (k .else-part) in
@@ -414,10 +418,10 @@ branch-same-length-3 t c = c .before .before .before .before .before .before .be
 
 branch-returns-4 : (t : ℕ) → branch-lts.Need-returns-4 (branch-claims t) (branch-at t) branch.Post
 branch-returns-4 t c =
-    λ t h.
+    λ x h.
     let s = c .before .before .before .before .before .before .before .before .before .before .before .before .before .before .before .before .before .before .before .before .before .before .before .before .before .before .before .before .before .before .before .before .before .before .before .before in
     let g = setting (s .args .n) (s .args .unroll) in
-    let k = branch-cut (s .args .words .now) t h (s .pre .1 .1 .0) (c .before .before .before .before .before .before .before .before .before .before .before .before .before .before .before .before .before .before .before .before .before .before .before .before .before .before .before .before .before .before .before .before .before .event-end .result) (c .before .before .before .before .before .before .before .before .before .before .before .before .before .before .before .before .before .before .before .before .before .before .before .before .before .before .before .before .before .before .before .before .before .event-end .ensures) (c .before .before .before .before .before .before .before .before .before .before .before .before .before .before .before .before .before .before .before .before .before .before .before .before .before .before .before .before .before .before .before .before .list-end .result) (c .before .before .before .before .before .before .before .before .before .before .before .before .before .before .before .before .before .before .before .before .before .before .before .before .before .before .before .before .before .before .before .before .list-end .ensures) in
+    let k = branch-parts t (c .before .before .before .before .before .before .before .before .before .before .before .before .before .before .before .before .before .before .before .before .before .before .before .before .before .before .before .before .before .before .before .before) x h in
     let o = c .before .before .before .before .before .before .before .before .before .before .before .before .before .before .before .before .before .before .before .before .before .before .before .before .before .before .before .before .before .before .sides .ensures (s .args .unroll) (k .event) (k .event-part) in
     let w = c .before .before .before .before .before .before .before .before .before .before .before .before .before .before .before .before .before .before .before .list .ensures (k .then-list) (k .then-part) in
     let v = c .before .before .before .before .before .before .before .before .list2 .ensures (k .else-list) (k .else-part) in
@@ -1284,6 +1288,10 @@ normalize-returns-5 t c =
     let none : l .left ≡ 0 = omega (arith, c .before .loop-test .left) in
     rw (c .good2 .ensures) (l .inv .1 .1 .1 b h .on _ _ (given-laws.no-value g (s .args .place) (s .args .base) b (s .args .t7) v vs (l .left) none (l .x) (l .joined) (l .marks)))
 
+-- the parts of a loop that the words are
+pass-parts : (t : ℕ) (c : pass-lts.After-event-end (pass-claims t) (pass-at t) pass.Post) (u : Unroll) (e : Event) (b : Statements) → c .before .before .before .args .words .now ≡ code.statement (While u e b) → LoopCut (c .before .before .before .args .words .now) (c .event-end .result) e b
+pass-parts t c u e b h = loop-cut (c .before .before .before .args .words .now) u e b h (c .event-end .result) (c .event-end .ensures)
+
 -- where the body of a loop stands, within the words and the marks
 pass-room : (t : ℕ) (c : pass-lts.After-event-end (pass-claims t) (pass-at t) pass.Post) →
     (3 < c .event-end .result) × ((c .event-end .result < length (c .before .before .before .args .words .now)) ×
@@ -1331,7 +1339,7 @@ pass-returns t c =
     λ u e b h.
     let s = c .before .before .before .before .before .before .before .before .before in
     let g = setting (s .args .n) (s .args .unroll) in
-    let k = loop-cut (s .args .words .now) u e b h (c .before .before .before .before .before .before .event-end .result) (c .before .before .before .before .before .before .event-end .ensures) in
+    let k = pass-parts t (c .before .before .before .before .before .before) u e b h in
     let o = c .before .before .before .before .sides .ensures (s .args .unroll) e (k .event-part) in
     let j = walks.pass-unsplit g (s .args .base) e b k (s .args .state) (c .before .before .before .before .sides .result) o (s .args .marks .now) (c .before .before .verdict .given .1) in
     record { out = c .stopped .ensures ∙ j .out; marks = j .marks }
@@ -1386,7 +1394,7 @@ pass-returns-2 t c =
     λ u e b h.
     let s = c .before .before .before .before .before .before .before .before .before .before .before .before .before .before .before .before .before .before .before .before .before .before in
     let g = setting (s .args .n) (s .args .unroll) in
-    let k = loop-cut (s .args .words .now) u e b h (c .before .before .before .before .before .before .before .before .before .before .before .before .before .before .before .before .before .before .before .event-end .result) (c .before .before .before .before .before .before .before .before .before .before .before .before .before .before .before .before .before .before .before .event-end .ensures) in
+    let k = pass-parts t (c .before .before .before .before .before .before .before .before .before .before .before .before .before .before .before .before .before .before .before) u e b h in
     let o = c .before .before .before .before .before .before .before .before .before .before .before .before .before .before .before .before .before .sides .ensures (s .args .unroll) e (k .event-part) in
     let w = c .before .before .before .before .before .before .list .ensures b (k .body-part) in
     let j = walks.pass-body-refused g (s .args .base) e b k (s .args .state) (c .before .before .before .before .before .before .before .before .before .before .before .before .before .before .before .before .before .sides .result) o (s .args .marks .now) (c .before .before .before .before .before .before .before .before .before .before .before .before .before .before .before .enum-told .given .1) (c .before .before .before .before .before .before .before .before .before .before .before .mark .ensures) w (c .before .before .after .given .1) in
@@ -1406,7 +1414,7 @@ pass-returns-3 t c =
     λ u e b h.
     let s = c .before .before .before .before .before .before .before .before .before .before .before .before .before .before .before .before .before .before .before .before .before .before in
     let g = setting (s .args .n) (s .args .unroll) in
-    let k = loop-cut (s .args .words .now) u e b h (c .before .before .before .before .before .before .before .before .before .before .before .before .before .before .before .before .before .before .before .event-end .result) (c .before .before .before .before .before .before .before .before .before .before .before .before .before .before .before .before .before .before .before .event-end .ensures) in
+    let k = pass-parts t (c .before .before .before .before .before .before .before .before .before .before .before .before .before .before .before .before .before .before .before) u e b h in
     let o = c .before .before .before .before .before .before .before .before .before .before .before .before .before .before .before .before .before .sides .ensures (s .args .unroll) e (k .event-part) in
     let w = c .before .before .before .before .before .before .list .ensures b (k .body-part) in
     let j = walks.pass-went g (s .args .base) e b k (s .args .state) (c .before .before .before .before .before .before .before .before .before .before .before .before .before .before .before .before .before .sides .result) o (s .args .marks .now) (c .before .before .before .before .before .before .before .before .before .before .before .before .before .before .before .enum-told .given .1) (c .before .before .before .before .before .before .before .before .before .before .before .mark .ensures) w (c .before .before .enum-told2 .given .1) in
