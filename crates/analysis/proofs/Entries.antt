@@ -157,12 +157,6 @@ module _ (ws : List ℕ) where
   unless-is ok number at true false p q = rw (p, q)
   unless-is ok number at false b p q = rw p
 
-  abbrev first-word : Reading ℕ
-  first-word = reader.unless ws (λ x. eqb x 1) 3 0
-
-  abbrev second-word : Reading ℕ
-  second-word = reader.unless ws (λ x. eqb x 5) 3 1
-
   pub begins-none : length ws ≡ 0 → Refused 3 0 ≡ begun (answers.begins ws)
   begins-none e = rw (unless-is (λ x. eqb x 1) 3 0 false (eqb (getD ws 0 0) 1) (le-ltb 0 (length ws) (omega arith)) refl, e)
 
