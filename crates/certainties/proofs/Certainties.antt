@@ -1,0 +1,295 @@
+-- The page's statements, each from the theorem that it cites.
+use mathlib.Core.Path.{_≡_, refl, sym, ap, _∙_, subst}
+use mathlib.Core.Bool.{Bool, true, false, cond, false≢true}
+use mathlib.Core.List.{List, _++_}
+use mathlib.Core.Logic.{_⊎_, inl, inr, _↔_}
+use Prim.Native.Nat.{ℕ, _+_, _*_, _≤_, _<_}
+use native.Mathlib.Omega.{arith}
+use native.Mathlib.Decide.{decLe}
+use lib.Dec.{ltb}
+use lib.ListN.{length, getD, drop, replicate, length-replicate}
+use borrow.Author.Tests.{ltb-true, ltb-false}
+use Rattle.ranges.specs.Ranges as ranges
+use Rattle.states.specs.declared.State.{State}
+use Rattle.states.specs.declared.Cell.{Cell}
+use Rattle.states.specs.declared.Verdict.the-variants.{Good, Refused}
+use Rattle.states.specs.declared.Answer as code
+use Rattle.states.specs.Answers.{Answer, Gives, Refuses, answered}
+use Rattle.states.specs.States as states
+use Rattle.states.specs.Starts as starts
+use Rattle.states.proofs.Starts.{Begun, Said, too-many, lowest, one-empty, as-given, started-says}
+use Rattle.paper.specs.Tree.{Statements}
+use Rattle.paper.specs.Code as code-of
+use Rattle.paper.specs.Limits.{IsProgram}
+use Rattle.paper.specs.Reader as reader
+use Rattle.paper.specs.Reader.{Read as Reads, Bad}
+use Rattle.paper.specs.Rules as rules
+use Rattle.paper.specs.Rules.{Looped}
+use Rattle.paper.specs.Runs.{Store, Runs, Holds}
+use Rattle.paper.specs.Entries.{ListEnters}
+use Rattle.paper.specs.Visits.{Visit, ListVisits}
+use Rattle.paper.specs.Used.{used}
+use Rattle.paper.specs.Answers as answers
+use Rattle.paper.specs.Promises.{Covers, LoopCovers}
+use Rattle.paper.specs.Table.{table}
+use Rattle.paper.proofs.Reading.{code-is-read}
+use Rattle.paper.proofs.Numbers.{Numbered, read, bad, program-numbered}
+use Rattle.paper.proofs.Ends.{Ends, gives, refuses, Gone, analysed-ends, looped-ends}
+use Rattle.paper.proofs.Within.{below}
+use Rattle.paper.proofs.Sure.{sure-of}
+use Rattle.paper.proofs.Held.{holds-dead}
+use Rattle.paper.proofs.Starts.{admitted-ok}
+use Rattle.paper.proofs.Visits.{visit-most, list-visits}
+use Rattle.paper.proofs.Certain.{certain}
+use Rattle.words.specs.declared.Checked.{Checked}
+use Rattle.words.specs.declared.Checked.the-variants as checked-is
+use Rattle.words.specs.Words.{checked, used-of}
+use Rattle.words.proofs.Unique.{code-injective}
+use Rattle.words.proofs.Exact.{sound-is-program, program-is-sound}
+use Rattle.analysis.specs.declared.Marked.{Marked}
+use Rattle.analysis.specs.declared.LoopAnswer.{LoopAnswer}
+use Rattle.analysis.specs.Entries.{marked}
+use Rattle.analysis.specs.Outcomes.{looped}
+use Rattle.analysis.proofs.Says.{answered-good, answered-refused}
+use Rattle.analysis.proofs.Entries.{too-long, too-wide, too-deep, let-in, analysed-unadmitted, analysed-bad, analysed-read, entered-none, marks-none}
+use Rattle.text.specs.declared.Reading.{Reading}
+use Rattle.text.specs.declared.Reading.the-variants as reading-is
+use Rattle.text.specs.declared.Printed.{Printed}
+use Rattle.text.specs.declared.Printed.the-variants as printed-is
+use Rattle.text.specs.Answers as outcomes
+use Rattle.text.specs.Answers.{Outcome, leaves, of-reading, of-printed, of-answer}
+use Rattle.text.specs.Line as lines
+use Rattle.text.specs.Says.{Says}
+use Rattle.text.specs.Grammar.{Text}
+use Rattle.text.specs.Machine.{outcome}
+use Rattle.text.proofs.Agree.{text-or-place, says}
+use Rattle.text.proofs.Only as only
+use Rattle.text.proofs.Only.{reading-once, printed-once}
+use Rattle.certainties.specs.Certainties as page
+use Rattle.certainties.specs.Certainties.{Input, Analyse, AnalyseMarked, AnalyseLoop, Check, Used, Read, Line, One, Certainties}
+
+-- ---- 1. Always an answer
+
+is-state : {n : ℕ} (s : State) → Begun n s → page.IsState n s
+is-state {n} s b = go (s .live) refl
+  where
+    go : (l : Bool) → s .live ≡ l → page.IsState n s
+    go true q = page.each-a-range q (λ v h. (b .fit .full q v h, b .proper v h)) (b .fit .rest)
+    go false q = subst (page.IsState n) (sym (b .fit .bare q)) page.empty
+
+answered-ends : {n : ℕ} (a : Answer State) → Ends 3 10 (Begun n) a → page.Answered n (answered a)
+answered-ends a (gives {a = s} b) = page.state (is-state s b)
+answered-ends a (refuses k {at} l m) = page.refusal k at l m
+
+looped-answered : {n : ℕ} (a : Answer Looped) → Ends 3 10 (Gone n) a → page.LoopAnswered n (looped a)
+looped-answered a (gives {a = l} g) = page.loop refl (is-state (l .exits) (g .exits)) (is-state (l .turned) (g .turned)) (is-state (l .settled) (g .settled))
+looped-answered a (refuses k {at} l m) = page.refusal k at l m
+
+checked-answered : (m : reader.Reading Statements) → Numbered m → page.CheckAnswered (checked m)
+unfolding checked
+checked-answered m (read {a = p}) = page.sound _
+checked-answered m (bad k {at} l h) = page.refusal k at l h
+
+analyse-answered : (i : Input) (r : code.Answer) → Analyse i r → page.Answered (i .n) r
+analyse-answered i r e = subst (page.Answered (i .n)) (sym e) (answered-ends _ (analysed-ends (i .words) (i .n) (i .start .cells) (i .unroll) (i .sixty-four)))
+
+no-marks : (i : Input) (r : Marked) (number place : ℕ) → AnalyseMarked i r → r .answer .verdict ≡ Refused number place → r .marks ≡ replicate 8192 0
+no-marks i r number place e q =
+    let a = answered-refused (answers.analysed (i .words) (i .n) (i .start .cells) (i .unroll)) (ap (λ (m : Marked). m .answer) e) q in
+    ap (λ (m : Marked). m .marks) e ∙ sym (marks-none {marks = replicate 8192 0} (entered-none (i .words) (i .n) (i .unroll) (i .start .cells) a))
+
+-- ---- texts
+
+read-answered : (text words : List ℕ) (r : Reading) (after : List ℕ) → Read text words r after → page.ReadAnswered text words r after
+read-answered text words r after s = size (decLe (length text) 65536)
+  where
+    of : (q : Reading) (x : List ℕ) → leaves (of-reading r) after ≡ leaves (of-reading q) x → page.ReadAnswered text words q x → page.ReadAnswered text words r after
+    of q x e h = subst (λ (p : Reading). page.ReadAnswered text words p after) (sym (reading-once r q (ap (λ (o : Outcome). o .answer) e))) (subst (page.ReadAnswered text words q) (sym (ap (λ (o : Outcome). o .buffer) e)) h)
+
+    fits : length text ≤ 65536 → (vs : List ℕ) → Text text vs → Dec (length vs ≤ 8192) → Dec (length vs ≤ length words) → page.ReadAnswered text words r after
+    fits h vs t (yes a) (yes b) = of (reading-is.Read (length vs)) (vs ++ drop (length vs) words) (s .fits h vs t a b) (page.numbers t)
+    fits h vs t (no a) b = of (reading-is.Refused 2 0) words (s .many h vs t (inl (omega arith))) page.too-much
+    fits h vs t (yes a) (no b) = of (reading-is.Refused 2 0) words (s .many h vs t (inr (omega arith))) page.too-much
+
+    size : Dec (length text ≤ 65536) → page.ReadAnswered text words r after
+    size (no h) = of (reading-is.Refused 2 0) words (s .long (omega arith)) page.too-much
+    size (yes h) = elim (text-or-place text) [
+      | inl t ↦ fits h (t .0) (t .1) (decLe (length (t .0)) 8192) (decLe (length (t .0)) (length words))
+      | inr p ↦ of (reading-is.Refused 1 (p .0)) words (s .broken h (p .1) (p .0) (p .2)) (page.no-text (p .1) (p .2))
+    ]
+
+line-answered : (answer : code.Answer) (n : ℕ) (out : List ℕ) (r : Printed) (after : List ℕ) → Line answer n out r after → page.LineAnswered (lines.line n (of-answer answer)) out r after
+line-answered answer n out r after e = go (ltb (length out) (length line)) refl e
+  where
+    line : List ℕ
+    line = lines.line n (of-answer answer)
+
+    of : (q : Printed) (x : List ℕ) → leaves (of-printed r) after ≡ leaves (of-printed q) x → page.LineAnswered line out q x → page.LineAnswered line out r after
+    of q x e h = subst (λ (p : Printed). page.LineAnswered line out p after) (sym (printed-once r q (ap (λ (o : Outcome). o .answer) e))) (subst (page.LineAnswered line out q) (sym (ap (λ (o : Outcome). o .buffer) e)) h)
+
+    go : (b : Bool) → ltb (length out) (length line) ≡ b → leaves (of-printed r) after ≡ cond b (outcomes.refused 2 0 out) (outcomes.done line out) → page.LineAnswered line out r after
+    go true q e = of printed-is.Short out e (page.short (ltb-true (length out) (length line) q))
+    go false q e = of (printed-is.Wrote (length line)) (line ++ drop (length line) out) e (page.written (ltb-false (length out) (length line) q))
+
+always-an-answer : page.AlwaysAnAnswer
+always-an-answer = record {
+  analyse = analyse-answered;
+  analyse-marked = λ i r e. analyse-answered i (r .answer) (ap (λ (m : Marked). m .answer) e);
+  no-marks = no-marks;
+  analyse-loop = λ i r e. subst (page.LoopAnswered (i .n)) (sym e) (looped-answered _ (looped-ends (i .words) (i .n) (i .start .cells) (i .unroll) (i .sixty-four)));
+  check = λ words n r e. subst page.CheckAnswered (sym e) (checked-answered (reader.program words n) (program-numbered words n));
+  read = read-answered;
+  line = line-answered;
+}
+
+-- ---- 2. Document 01's refusals and ranges
+
+-- an answer that is an equation is one only
+equal : {A : Type 0} (a : A) → One (λ (r : A). r ≡ a)
+equal a = record { answer = a; is = refl; only = λ other e. e }
+
+-- the reader's answer as the code has it
+as-reading : Answer ℕ → Reading
+as-reading (Gives count) = reading-is.Read count
+as-reading (Refuses number place) = reading-is.Refused number place
+
+read-back : (a : Answer ℕ) → of-reading (as-reading a) ≡ a
+unfolding as-reading
+read-back (Gives count) = refl
+read-back (Refuses number place) = refl
+
+read-one : (text words : List ℕ) → One (λ (x : Reading × List ℕ). Read text words (x .0) (x .1))
+read-one text words =
+    let o = outcome text words in
+    let s : Read text words (as-reading (o .answer)) (o .buffer) = subst (λ (a : Answer ℕ). Says text words (leaves a (o .buffer))) (sym (read-back (o .answer))) (says text words) in
+    record {
+      answer = (as-reading (o .answer), o .buffer);
+      is = s;
+      only = λ x t. let e = only.read text words (x .0) (as-reading (o .answer)) (x .1) (o .buffer) t s in λ i. (e .0 i, e .1 i);
+    }
+
+line-one : (answer : code.Answer) (n : ℕ) (out : List ℕ) → One (λ (x : Printed × List ℕ). Line answer n out (x .0) (x .1))
+line-one answer n out =
+    let s = made (ltb (length out) (length line)) in
+    record {
+      answer = s .0;
+      is = s .1;
+      only = λ x t. let e = only.line answer n out (x .0) (s .0 .0) (x .1) (s .0 .1) t (s .1) in λ i. (e .0 i, e .1 i);
+    }
+  where
+    line : List ℕ
+    line = lines.line n (of-answer answer)
+
+    made : (b : Bool) → (x : Printed × List ℕ) × (leaves (of-printed (x .0)) (x .1) ≡ cond b (outcomes.refused 2 0 out) (outcomes.done line out))
+    made true = ((printed-is.Short, out), refl)
+    made false = ((printed-is.Wrote (length line), outcomes.done line out .buffer), refl)
+
+-- the lowest range whose start is over its end
+start-over-end : (n : ℕ) (cs : List Cell) → length cs ≡ 64 → n ≤ 64 → (v : ℕ) → v < n → ranges.crossed (states.get (states.live cs) v) ≡ true →
+    ((w : ℕ) → w < v → ranges.crossed (states.get (states.live cs) w) ≡ false) → starts.started n cs ≡ Refuses 7 v
+start-over-end n cs long small v h q low = go (starts.started n cs) (started-says n cs long)
+  where
+    go : (a : Answer State) → Said n cs a → a ≡ Refuses 7 v
+    go a (too-many k) = absurd (omega arith)
+    go a (lowest w k lt c first) = ap (Refuses 7) (same (decLe w v) (decLe v w))
+      where
+        same : Dec (w ≤ v) → Dec (v ≤ w) → w ≡ v
+        same (yes x) (yes y) = omega arith
+        same (no x) y = absurd (false≢true (sym (first v (omega arith)) ∙ q))
+        same (yes x) (no y) = absurd (false≢true (sym (low w (omega arith)) ∙ c))
+    go a (one-empty w k proper lt e) = absurd (false≢true (sym (proper v h) ∙ q))
+    go a (as-given k proper filled) = absurd (false≢true (sym (proper v h) ∙ q))
+
+over-a-limit : (i : Input) (r : code.Answer) → Analyse i r → (8192 < length (i .words)) ⊎ (64 < i .n) ⊎ (10000 < i .unroll) → r ≡ answered (Refuses 4 0)
+over-a-limit i r e over = e ∙ ap answered (analysed-unadmitted (i .words) (i .n) (i .unroll) (i .start .cells) (sym (go over (decLe (length (i .words)) 8192) (decLe (i .n) 64))))
+  where
+    go : (8192 < length (i .words)) ⊎ (64 < i .n) ⊎ (10000 < i .unroll) → Dec (length (i .words) ≤ 8192) → Dec (i .n ≤ 64) → Refuses 4 0 ≡ answers.admitted (i .words) (i .n) (i .unroll) (i .start .cells)
+    go o (no a) b = too-long (i .words) (i .n) (i .unroll) (i .start .cells) (omega arith)
+    go o (yes a) (no b) = too-wide (i .words) (i .n) (i .unroll) (i .start .cells) a (omega arith)
+    go (inl h) (yes a) (yes b) = absurd (omega arith)
+    go (inr (inl h)) (yes a) (yes b) = absurd (omega arith)
+    go (inr (inr h)) (yes a) (yes b) = too-deep (i .words) (i .n) (i .unroll) (i .start .cells) a b h
+
+as-document-01-says : page.AsDocument01Says
+as-document-01-says = record {
+  over-a-limit = over-a-limit;
+  start-over-end = λ i r e a b c v h q low. e ∙ ap answered (analysed-unadmitted (i .words) (i .n) (i .unroll) (i .start .cells)
+      (sym (let-in (i .words) (i .n) (i .unroll) (i .start .cells) a b c) ∙ start-over-end (i .n) (i .start .cells) (i .sixty-four) b v h q low));
+  bad-word = λ i r s number place e start bad. e ∙ ap answered (analysed-bad (i .words) (i .n) (i .unroll) (i .start .cells) start bad);
+  by-the-rules = λ i r s p e start. e ∙ ap answered (analysed-read (i .words) (i .n) (i .unroll) (i .start .cells) start (is-read p));
+  programs = λ words n. (λ u. sound-is-program words n (sym (u .1)) .program, λ p. (used (p .tree), sym (program-is-sound words n p)));
+  analyse = λ i. equal _;
+  analyse-marked = λ i. equal _;
+  analyse-loop = λ i. equal _;
+  check = λ words n. equal _;
+  used = λ words. equal _;
+  read = read-one;
+  line = line-one;
+  table = table;
+}
+  where
+    is-read : {n : ℕ} {ws : List ℕ} (p : IsProgram n ws) → reader.program ws n ≡ Reads (p .tree) (length (code-of.program (p .tree)))
+    is-read {n} {ws} p = ap (λ (l : List ℕ). reader.program l n) (p .is) ∙ code-is-read n (p .tree) (p .within)
+
+-- ---- 3. Every run ends inside
+
+covers : (i : Input) (r : code.Answer) → Analyse i r → r .verdict ≡ Good → Covers (i .words) (i .n) (i .start .cells) (i .unroll) (r .state)
+covers i r e g = certain .analysed (i .words) (i .n) (i .start .cells) (i .unroll) (r .state) (i .sixty-four) (answered-good (answers.analysed (i .words) (i .n) (i .start .cells) (i .unroll)) e g)
+
+-- the words code one program
+ends-inside : (i : Input) (r : code.Answer) (p : IsProgram (i .n) (i .words)) (σ τ : Store) → Analyse i r → r .verdict ≡ Good → Holds (i .n) (states.live (i .start .cells)) σ → Runs (p .tree) σ τ → Holds (i .n) (r .state) τ
+ends-inside i r p σ τ e g h run = let c = covers i r e g in c .covers σ τ h (subst (λ (t : Statements). Runs t σ τ) (code-injective (p .tree) (c .program .tree) (sym (p .is) ∙ c .program .is)) run)
+
+loop-good : (a : Answer Looped) (r : LoopAnswer) → r ≡ looped a → r .verdict ≡ Good → (l : Looped) × (a ≡ Gives l) × (r ≡ looped (Gives l))
+loop-good (Gives l) r e g = (l, refl, e)
+loop-good (Refuses number place) r e g = absurd (let z : _≡_ {A = ℕ} 0 1 = cc in omega arith)
+
+loop-certain : (i : Input) (r : LoopAnswer) → AnalyseLoop i r → r .verdict ≡ Good → page.LoopCertain i r
+loop-certain i r e g =
+    let x = loop-good (answers.looped (i .words) (i .n) (i .start .cells) (i .unroll)) r e g in
+    let c = certain .looped (i .words) (i .n) (i .start .cells) (i .unroll) (x .0) (i .sixty-four) (x .1) in
+    subst (page.LoopCertain i) (sym (x .2)) (record {
+      program = c .program;
+      unroll = c .unroll;
+      event = c .event;
+      body = c .body;
+      one-loop = c .is;
+      ends-inside = c .covers;
+      settled = c .settled;
+      gone-over = c .loop .passes;
+    })
+
+-- words that are answered fit the marks
+room : (i : Input) {t : State} → answers.analysed (i .words) (i .n) (i .start .cells) (i .unroll) ≡ Gives t → length (i .words) ≤ 8192
+room i {t} a = go (decLe (length (i .words)) 8192)
+  where
+    go : Dec (length (i .words) ≤ 8192) → length (i .words) ≤ 8192
+    go (yes h) = h
+    go (no h) =
+        let b = analysed-unadmitted (i .words) (i .n) (i .unroll) (i .start .cells) (sym (too-long (i .words) (i .n) (i .unroll) (i .start .cells) (omega arith))) in
+        absurd (let z : _≡_ {A = ℕ} 0 1 = cc in omega arith)
+
+gone-over : (i : Input) (s : State) (p : IsProgram (i .n) (i .words)) (v : Visit) → page.Admitted i s → ListVisits (page.setting i) (p .tree) 1 s v → page.passes (page.setting i) v ≤ 201 + rules.turns (page.setting i) (v .unroll) + 2 * i .n
+gone-over i s p v start visits =
+    let A = sure-of (admitted-ok (i .words) (i .n) (i .unroll) (i .start .cells) (i .sixty-four)) start in
+    visit-most (page.setting i) (A .small) v (list-visits (page.setting i) (A .small) (p .tree) 1 s v (below (i .n) (p .within)) (A .fit) visits)
+
+every-run-ends-inside : page.EveryRunEndsInside
+every-run-ends-inside = record {
+  program = λ i r e g. covers i r e g .program;
+  ends-inside = ends-inside;
+  none-ends = λ i r p σ τ e g empty h run. holds-dead (ap (λ (s : State). s .live) empty) (ends-inside i r p σ τ e g h run);
+  gone-over = gone-over;
+  settled = λ i s p v l start visits q. certain .each-loop (i .words) (i .n) (i .start .cells) (i .unroll) p s v l (i .sixty-four) start visits q .settled;
+  analyse-loop = loop-certain;
+  dead = dead;
+}
+  where
+    dead : (i : Input) (r : Marked) (p : IsProgram (i .n) (i .words)) (place : ℕ) (σ : Store) → AnalyseMarked i r → r .answer .verdict ≡ Good → getD (r .marks) place 0 ≡ 0 → Holds (i .n) (states.live (i .start .cells)) σ → ListEnters (p .tree) 1 σ place → ⊥
+    dead i r p place σ e g unmarked =
+        let a = answered-good (answers.analysed (i .words) (i .n) (i .start .cells) (i .unroll)) (ap (λ (m : Marked). m .answer) e) g in
+        certain .marked (i .words) (i .n) (i .start .cells) (i .unroll) (r .answer .state) (replicate 8192 0) place (i .sixty-four) a (rw length-replicate (room i a))
+        (ap (λ (m : List ℕ). getD m place 0) (sym (ap (λ (m : Marked). m .marks) e)) ∙ unmarked) p σ
+
+pub certainties : Certainties
+certainties = record { always-an-answer = always-an-answer; as-document-01-says = as-document-01-says; every-run-ends-inside = every-run-ends-inside }

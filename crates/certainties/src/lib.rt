@@ -1,0 +1,1 @@
+// The three certainties, stated of the functions' answers. No code.
