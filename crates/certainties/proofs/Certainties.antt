@@ -2,7 +2,7 @@
 use mathlib.Core.Path.{_≡_, refl, sym, ap, _∙_, subst}
 use mathlib.Core.Bool.{Bool, true, false, cond, false≢true}
 use mathlib.Core.List.{List, _++_}
-use mathlib.Core.Logic.{_⊎_, inl, inr, _↔_}
+use mathlib.Core.Logic.{_⊎_, inl, inr}
 use Prim.Native.Nat.{ℕ, _+_, _*_, _≤_, _<_}
 use native.Mathlib.Omega.{arith}
 use native.Mathlib.Decide.{decLe}
@@ -22,7 +22,7 @@ use Rattle.paper.specs.Tree.{Statements}
 use Rattle.paper.specs.Code as code-of
 use Rattle.paper.specs.Limits.{IsProgram}
 use Rattle.paper.specs.Reader as reader
-use Rattle.paper.specs.Reader.{Read as Reads, Bad}
+use Rattle.paper.specs.Reader.{Read as Reads}
 use Rattle.paper.specs.Rules as rules
 use Rattle.paper.specs.Rules.{Looped}
 use Rattle.paper.specs.Runs.{Store, Runs, Holds}
@@ -30,7 +30,7 @@ use Rattle.paper.specs.Entries.{ListEnters}
 use Rattle.paper.specs.Visits.{Visit, ListVisits}
 use Rattle.paper.specs.Used.{used}
 use Rattle.paper.specs.Answers as answers
-use Rattle.paper.specs.Promises.{Covers, LoopCovers}
+use Rattle.paper.specs.Promises.{Covers}
 use Rattle.paper.specs.Table.{table}
 use Rattle.paper.proofs.Reading.{code-is-read}
 use Rattle.paper.proofs.Numbers.{Numbered, read, bad, program-numbered}
@@ -41,9 +41,7 @@ use Rattle.paper.proofs.Held.{holds-dead}
 use Rattle.paper.proofs.Starts.{admitted-ok}
 use Rattle.paper.proofs.Visits.{visit-most, list-visits}
 use Rattle.paper.proofs.Certain.{certain}
-use Rattle.words.specs.declared.Checked.{Checked}
-use Rattle.words.specs.declared.Checked.the-variants as checked-is
-use Rattle.words.specs.Words.{checked, used-of}
+use Rattle.words.specs.Words.{checked}
 use Rattle.words.proofs.Unique.{code-injective}
 use Rattle.words.proofs.Exact.{sound-is-program, program-is-sound}
 use Rattle.analysis.specs.declared.Marked.{Marked}
@@ -65,8 +63,9 @@ use Rattle.text.specs.Machine.{outcome}
 use Rattle.text.proofs.Agree.{text-or-place, says}
 use Rattle.text.proofs.Only as only
 use Rattle.text.proofs.Only.{reading-once, printed-once}
+use Rattle.certainties.proofs.Numbers.{every-number}
 use Rattle.certainties.specs.Certainties as page
-use Rattle.certainties.specs.Certainties.{Input, Analyse, AnalyseMarked, AnalyseLoop, Check, Used, Read, Line, One, Certainties}
+use Rattle.certainties.specs.Certainties.{Input, Analyse, AnalyseMarked, AnalyseLoop, Read, Line, One, Certainties}
 
 -- ---- 1. Always an answer
 
@@ -79,16 +78,16 @@ is-state {n} s b = go (s .live) refl
 
 answered-ends : {n : ℕ} (a : Answer State) → Ends 3 10 (Begun n) a → page.Answered n (answered a)
 answered-ends a (gives {a = s} b) = page.state (is-state s b)
-answered-ends a (refuses k {at} l m) = page.refusal k at l m
+answered-ends a (refuses k {at} l m) = page.refusal k at (omega arith) (omega arith)
 
 looped-answered : {n : ℕ} (a : Answer Looped) → Ends 3 10 (Gone n) a → page.LoopAnswered n (looped a)
 looped-answered a (gives {a = l} g) = page.loop refl (is-state (l .exits) (g .exits)) (is-state (l .turned) (g .turned)) (is-state (l .settled) (g .settled))
-looped-answered a (refuses k {at} l m) = page.refusal k at l m
+looped-answered a (refuses k {at} l m) = page.refusal k at (omega arith) (omega arith)
 
 checked-answered : (m : reader.Reading Statements) → Numbered m → page.CheckAnswered (checked m)
 unfolding checked
 checked-answered m (read {a = p}) = page.sound _
-checked-answered m (bad k {at} l h) = page.refusal k at l h
+checked-answered m (bad k {at} l h) = page.refusal k at (omega arith) (omega arith)
 
 analyse-answered : (i : Input) (r : code.Answer) → Analyse i r → page.Answered (i .n) r
 analyse-answered i r e = subst (page.Answered (i .n)) (sym e) (answered-ends _ (analysed-ends (i .words) (i .n) (i .start .cells) (i .unroll) (i .sixty-four)))
@@ -98,39 +97,6 @@ no-marks i r number place e q =
     let a = answered-refused (answers.analysed (i .words) (i .n) (i .start .cells) (i .unroll)) (ap (λ (m : Marked). m .answer) e) q in
     ap (λ (m : Marked). m .marks) e ∙ sym (marks-none {marks = replicate 8192 0} (entered-none (i .words) (i .n) (i .unroll) (i .start .cells) a))
 
--- ---- texts
-
-read-answered : (text words : List ℕ) (r : Reading) (after : List ℕ) → Read text words r after → page.ReadAnswered text words r after
-read-answered text words r after s = size (decLe (length text) 65536)
-  where
-    of : (q : Reading) (x : List ℕ) → leaves (of-reading r) after ≡ leaves (of-reading q) x → page.ReadAnswered text words q x → page.ReadAnswered text words r after
-    of q x e h = subst (λ (p : Reading). page.ReadAnswered text words p after) (sym (reading-once r q (ap (λ (o : Outcome). o .answer) e))) (subst (page.ReadAnswered text words q) (sym (ap (λ (o : Outcome). o .buffer) e)) h)
-
-    fits : length text ≤ 65536 → (vs : List ℕ) → Text text vs → Dec (length vs ≤ 8192) → Dec (length vs ≤ length words) → page.ReadAnswered text words r after
-    fits h vs t (yes a) (yes b) = of (reading-is.Read (length vs)) (vs ++ drop (length vs) words) (s .fits h vs t a b) (page.numbers t)
-    fits h vs t (no a) b = of (reading-is.Refused 2 0) words (s .many h vs t (inl (omega arith))) page.too-much
-    fits h vs t (yes a) (no b) = of (reading-is.Refused 2 0) words (s .many h vs t (inr (omega arith))) page.too-much
-
-    size : Dec (length text ≤ 65536) → page.ReadAnswered text words r after
-    size (no h) = of (reading-is.Refused 2 0) words (s .long (omega arith)) page.too-much
-    size (yes h) = elim (text-or-place text) [
-      | inl t ↦ fits h (t .0) (t .1) (decLe (length (t .0)) 8192) (decLe (length (t .0)) (length words))
-      | inr p ↦ of (reading-is.Refused 1 (p .0)) words (s .broken h (p .1) (p .0) (p .2)) (page.no-text (p .1) (p .2))
-    ]
-
-line-answered : (answer : code.Answer) (n : ℕ) (out : List ℕ) (r : Printed) (after : List ℕ) → Line answer n out r after → page.LineAnswered (lines.line n (of-answer answer)) out r after
-line-answered answer n out r after e = go (ltb (length out) (length line)) refl e
-  where
-    line : List ℕ
-    line = lines.line n (of-answer answer)
-
-    of : (q : Printed) (x : List ℕ) → leaves (of-printed r) after ≡ leaves (of-printed q) x → page.LineAnswered line out q x → page.LineAnswered line out r after
-    of q x e h = subst (λ (p : Printed). page.LineAnswered line out p after) (sym (printed-once r q (ap (λ (o : Outcome). o .answer) e))) (subst (page.LineAnswered line out q) (sym (ap (λ (o : Outcome). o .buffer) e)) h)
-
-    go : (b : Bool) → ltb (length out) (length line) ≡ b → leaves (of-printed r) after ≡ cond b (outcomes.refused 2 0 out) (outcomes.done line out) → page.LineAnswered line out r after
-    go true q e = of printed-is.Short out e (page.short (ltb-true (length out) (length line) q))
-    go false q e = of (printed-is.Wrote (length line)) (line ++ drop (length line) out) e (page.written (ltb-false (length out) (length line) q))
-
 always-an-answer : page.AlwaysAnAnswer
 always-an-answer = record {
   analyse = analyse-answered;
@@ -138,8 +104,7 @@ always-an-answer = record {
   no-marks = no-marks;
   analyse-loop = λ i r e. subst (page.LoopAnswered (i .n)) (sym e) (looped-answered _ (looped-ends (i .words) (i .n) (i .start .cells) (i .unroll) (i .sixty-four)));
   check = λ words n r e. subst page.CheckAnswered (sym e) (checked-answered (reader.program words n) (program-numbered words n));
-  read = read-answered;
-  line = line-answered;
+  every-number = every-number;
 }
 
 -- ---- 2. Document 01's refusals and ranges
@@ -147,42 +112,6 @@ always-an-answer = record {
 -- an answer that is an equation is one only
 equal : {A : Type 0} (a : A) → One (λ (r : A). r ≡ a)
 equal a = record { answer = a; is = refl; only = λ other e. e }
-
--- the reader's answer as the code has it
-as-reading : Answer ℕ → Reading
-as-reading (Gives count) = reading-is.Read count
-as-reading (Refuses number place) = reading-is.Refused number place
-
-read-back : (a : Answer ℕ) → of-reading (as-reading a) ≡ a
-unfolding as-reading
-read-back (Gives count) = refl
-read-back (Refuses number place) = refl
-
-read-one : (text words : List ℕ) → One (λ (x : Reading × List ℕ). Read text words (x .0) (x .1))
-read-one text words =
-    let o = outcome text words in
-    let s : Read text words (as-reading (o .answer)) (o .buffer) = subst (λ (a : Answer ℕ). Says text words (leaves a (o .buffer))) (sym (read-back (o .answer))) (says text words) in
-    record {
-      answer = (as-reading (o .answer), o .buffer);
-      is = s;
-      only = λ x t. let e = only.read text words (x .0) (as-reading (o .answer)) (x .1) (o .buffer) t s in λ i. (e .0 i, e .1 i);
-    }
-
-line-one : (answer : code.Answer) (n : ℕ) (out : List ℕ) → One (λ (x : Printed × List ℕ). Line answer n out (x .0) (x .1))
-line-one answer n out =
-    let s = made (ltb (length out) (length line)) in
-    record {
-      answer = s .0;
-      is = s .1;
-      only = λ x t. let e = only.line answer n out (x .0) (s .0 .0) (x .1) (s .0 .1) t (s .1) in λ i. (e .0 i, e .1 i);
-    }
-  where
-    line : List ℕ
-    line = lines.line n (of-answer answer)
-
-    made : (b : Bool) → (x : Printed × List ℕ) × (leaves (of-printed (x .0)) (x .1) ≡ cond b (outcomes.refused 2 0 out) (outcomes.done line out))
-    made true = ((printed-is.Short, out), refl)
-    made false = ((printed-is.Wrote (length line), outcomes.done line out .buffer), refl)
 
 -- the lowest range whose start is over its end
 start-over-end : (n : ℕ) (cs : List Cell) → length cs ≡ 64 → n ≤ 64 → (v : ℕ) → v < n → ranges.crossed (states.get (states.live cs) v) ≡ true →
@@ -223,8 +152,6 @@ as-document-01-says = record {
   analyse-loop = λ i. equal _;
   check = λ words n. equal _;
   used = λ words. equal _;
-  read = read-one;
-  line = line-one;
   table = table;
 }
   where
@@ -256,7 +183,7 @@ loop-certain i r e g =
       one-loop = c .is;
       ends-inside = c .covers;
       settled = c .settled;
-      gone-over = c .loop .passes;
+      gone-over = omega (arith, c .loop .passes);
     })
 
 -- words that are answered fit the marks
@@ -291,5 +218,79 @@ every-run-ends-inside = record {
         certain .marked (i .words) (i .n) (i .start .cells) (i .unroll) (r .answer .state) (replicate 8192 0) place (i .sixty-four) a (rw length-replicate (room i a))
         (ap (λ (m : List ℕ). getD m place 0) (sym (ap (λ (m : Marked). m .marks) e)) ∙ unmarked) p σ
 
+-- ---- texts
+
+read-answered : (text words : List ℕ) (r : Reading) (after : List ℕ) → Read text words r after → page.ReadAnswered text words r after
+read-answered text words r after s = size (decLe (length text) 65536)
+  where
+    of : (q : Reading) (x : List ℕ) → leaves (of-reading r) after ≡ leaves (of-reading q) x → page.ReadAnswered text words q x → page.ReadAnswered text words r after
+    of q x e h = subst (λ (p : Reading). page.ReadAnswered text words p after) (sym (reading-once r q (ap (λ (o : Outcome). o .answer) e))) (subst (page.ReadAnswered text words q) (sym (ap (λ (o : Outcome). o .buffer) e)) h)
+
+    fits : length text ≤ 65536 → (vs : List ℕ) → Text text vs → Dec (length vs ≤ 8192) → Dec (length vs ≤ length words) → page.ReadAnswered text words r after
+    fits h vs t (yes a) (yes b) = of (reading-is.Read (length vs)) (vs ++ drop (length vs) words) (s .fits h vs t a b) (page.numbers t)
+    fits h vs t (no a) b = of (reading-is.Refused 2 0) words (s .many h vs t (inl (omega arith))) page.too-much
+    fits h vs t (yes a) (no b) = of (reading-is.Refused 2 0) words (s .many h vs t (inr (omega arith))) page.too-much
+
+    size : Dec (length text ≤ 65536) → page.ReadAnswered text words r after
+    size (no h) = of (reading-is.Refused 2 0) words (s .long (omega arith)) page.too-much
+    size (yes h) = elim (text-or-place text) [
+      | inl t ↦ fits h (t .0) (t .1) (decLe (length (t .0)) 8192) (decLe (length (t .0)) (length words))
+      | inr p ↦ of (reading-is.Refused 1 (p .0)) words (s .broken h (p .1) (p .0) (p .2)) (page.no-text (p .1) (p .2))
+    ]
+
+line-answered : (answer : code.Answer) (n : ℕ) (out : List ℕ) (r : Printed) (after : List ℕ) → Line answer n out r after → page.LineAnswered (lines.line n (of-answer answer)) out r after
+line-answered answer n out r after e = go (ltb (length out) (length line)) refl e
+  where
+    line : List ℕ
+    line = lines.line n (of-answer answer)
+
+    of : (q : Printed) (x : List ℕ) → leaves (of-printed r) after ≡ leaves (of-printed q) x → page.LineAnswered line out q x → page.LineAnswered line out r after
+    of q x e h = subst (λ (p : Printed). page.LineAnswered line out p after) (sym (printed-once r q (ap (λ (o : Outcome). o .answer) e))) (subst (page.LineAnswered line out q) (sym (ap (λ (o : Outcome). o .buffer) e)) h)
+
+    go : (b : Bool) → ltb (length out) (length line) ≡ b → leaves (of-printed r) after ≡ cond b (outcomes.refused 2 0 out) (outcomes.done line out) → page.LineAnswered line out r after
+    go true q e = of printed-is.Short out e (page.short (ltb-true (length out) (length line) q))
+    go false q e = of (printed-is.Wrote (length line)) (line ++ drop (length line) out) e (page.written (ltb-false (length out) (length line) q))
+
+-- the reader's answer as the code has it
+as-reading : Answer ℕ → Reading
+as-reading (Gives count) = reading-is.Read count
+as-reading (Refuses number place) = reading-is.Refused number place
+
+read-back : (a : Answer ℕ) → of-reading (as-reading a) ≡ a
+unfolding as-reading
+read-back (Gives count) = refl
+read-back (Refuses number place) = refl
+
+read-one : (text words : List ℕ) → One (λ (x : Reading × List ℕ). Read text words (x .0) (x .1))
+read-one text words =
+    let o = outcome text words in
+    let s : Read text words (as-reading (o .answer)) (o .buffer) = subst (λ (a : Answer ℕ). Says text words (leaves a (o .buffer))) (sym (read-back (o .answer))) (says text words) in
+    record {
+      answer = (as-reading (o .answer), o .buffer);
+      is = s;
+      only = λ x t. let e = only.read text words (x .0) (as-reading (o .answer)) (x .1) (o .buffer) t s in λ i. (e .0 i, e .1 i);
+    }
+
+line-one : (answer : code.Answer) (n : ℕ) (out : List ℕ) → One (λ (x : Printed × List ℕ). Line answer n out (x .0) (x .1))
+line-one answer n out =
+    let s = made (ltb (length out) (length line)) in
+    record {
+      answer = s .0;
+      is = s .1;
+      only = λ x t. let e = only.line answer n out (x .0) (s .0 .0) (x .1) (s .0 .1) t (s .1) in λ i. (e .0 i, e .1 i);
+    }
+  where
+    line : List ℕ
+    line = lines.line n (of-answer answer)
+
+    made : (b : Bool) → (x : Printed × List ℕ) × (leaves (of-printed (x .0)) (x .1) ≡ cond b (outcomes.refused 2 0 out) (outcomes.done line out))
+    made true = ((printed-is.Short, out), refl)
+    made false = ((printed-is.Wrote (length line), outcomes.done line out .buffer), refl)
+
+of-texts : page.OfTexts
+of-texts = record { read = read-answered; line = line-answered; one-read = read-one; one-line = line-one }
+
+-- ---- all of it
+
 pub certainties : Certainties
-certainties = record { always-an-answer = always-an-answer; as-document-01-says = as-document-01-says; every-run-ends-inside = every-run-ends-inside }
+certainties = record { always-an-answer = always-an-answer; as-document-01-says = as-document-01-says; every-run-ends-inside = every-run-ends-inside; of-texts = of-texts }

@@ -6,7 +6,6 @@ use mathlib.Core.List.{List, [], _∷_, _++_}
 use mathlib.Core.Logic.{_⊎_, _↔_}
 use Prim.Native.Nat.{ℕ, _+_, _*_, _≤_, _<_}
 use lib.ListN.{length, getD, drop, replicate}
-use Rattle.ranges.specs.declared.Range.{Range}
 use Rattle.ranges.specs.Ranges as ranges
 use Rattle.states.specs.declared.State.{State}
 use Rattle.states.specs.declared.Start.{Start}
@@ -41,7 +40,7 @@ use Rattle.text.specs.Says.{Says}
 use Rattle.text.specs.Answers.{leaves, of-reading, of-printed, of-answer}
 use Rattle.text.specs.Line as lines
 
--- ---- what the functions answer: the equation that each one's contract proves of its result r, for every input
+-- ---- what the functions answer: the equation that each one's contract proves of its result r (src/lib.rt holds this page to the contracts)
 
 -- what a caller hands over: words, n, starting ranges and a default unroll, all of any value; the ranges are 64 by their type
 pub record Input : Type 0 where
@@ -66,13 +65,6 @@ Check words n r = r ≡ checked (reader.program words n)
 abbrev pub Used : List ℕ → ℕ → Type 0
 Used words r = r ≡ used-of (reader.program words 64)
 
--- `read` and `line` are lent a buffer: what it holds before, and after
-abbrev pub Read : (text words : List ℕ) → Reading → (after : List ℕ) → Type 0
-Read text words r after = Says text words (leaves (of-reading r) after)
-
-abbrev pub Line : Answer → ℕ → (out : List ℕ) → Printed → (after : List ℕ) → Type 0
-Line answer n out r after = leaves (of-printed r) after ≡ lines.printed (lines.line n (of-answer answer)) out
-
 -- ---- 1. Always an answer
 
 -- "a range for each variable", its start at most its end, and [0,0] where no variable is; or "the answer empty", which is one value
@@ -95,17 +87,6 @@ pub data CheckAnswered : Checked → Type 0 where
   sound : (variables : ℕ) → CheckAnswered (checked-is.Sound variables)
   refusal : (number place : ℕ) → 3 ≤ number → number ≤ 6 → CheckAnswered (checked-is.Refused number place)
 
--- "Every program text": its numbers stand in front of the lent buffer, or it is refused by 1 or 2; "A refusal .. writes into no lent buffer."
-pub data ReadAnswered (text words : List ℕ) : Reading → (after : List ℕ) → Type 0 where
-  numbers : {vs : List ℕ} → Text text vs → ReadAnswered text words (reading-is.Read (length vs)) (vs ++ drop (length vs) words)
-  no-text : {place : ℕ} → ((vs : List ℕ) → Text text vs → ⊥) → Longest text place → ReadAnswered text words (reading-is.Refused 1 place) words
-  too-much : ReadAnswered text words (reading-is.Refused 2 0) words
-
--- the line stands in front of the lent buffer, or the buffer is shorter, which is 2 at 0, and stays as it was
-pub data LineAnswered (line out : List ℕ) : Printed → (after : List ℕ) → Type 0 where
-  written : length line ≤ length out → LineAnswered line out (printed-is.Wrote (length line)) (line ++ drop (length line) out)
-  short : length out < length line → LineAnswered line out printed-is.Short out
-
 -- "The caller need check nothing.": no statement has a condition
 pub record AlwaysAnAnswer : Type 0 where
   pub analyse : (i : Input) (r : Answer) → Analyse i r → Answered (i .n) r
@@ -113,8 +94,8 @@ pub record AlwaysAnAnswer : Type 0 where
   pub no-marks : (i : Input) (r : Marked) (number place : ℕ) → AnalyseMarked i r → r .answer .verdict ≡ Refused number place → r .marks ≡ replicate 8192 0
   pub analyse-loop : (i : Input) (r : LoopAnswer) → AnalyseLoop i r → LoopAnswered (i .n) r
   pub check : (words : List ℕ) (n : ℕ) (r : Checked) → Check words n r → CheckAnswered r
-  pub read : (text words : List ℕ) (r : Reading) (after : List ℕ) → Read text words r after → ReadAnswered text words r after
-  pub line : (answer : Answer) (n : ℕ) (out : List ℕ) (r : Printed) (after : List ℕ) → Line answer n out r after → LineAnswered (lines.line n (of-answer answer)) out r after
+  -- each of the eight numbers does occur
+  pub every-number : (number : ℕ) → 3 ≤ number → number ≤ 10 → (i : Input) × (place : ℕ) × Analyse i (answered (Refuses number place))
 
 -- ---- 2. Document 01's refusals and ranges
 
@@ -148,8 +129,6 @@ pub record AsDocument01Says : Type 0 where
   pub analyse-loop : (i : Input) → One (AnalyseLoop i)
   pub check : (words : List ℕ) (n : ℕ) → One (Check words n)
   pub used : (words : List ℕ) → One (Used words)
-  pub read : (text words : List ℕ) → One (λ (x : Reading × List ℕ). Read text words (x .0) (x .1))
-  pub line : (answer : Answer) (n : ℕ) (out : List ℕ) → One (λ (x : Printed × List ℕ). Line answer n out (x .0) (x .1))
   -- "Proved table"
   pub table : Table
 
@@ -186,9 +165,36 @@ pub record EveryRunEndsInside : Type 0 where
   -- a list whose mark is 0 is entered by no run, also by none that never ends
   pub dead : (i : Input) (r : Marked) (p : IsProgram (i .n) (i .words)) (place : ℕ) (σ : Store) → AnalyseMarked i r → r .answer .verdict ≡ Good → getD (r .marks) place 0 ≡ 0 → Holds (i .n) (states.live (i .start .cells)) σ → ListEnters (p .tree) 1 σ place → ⊥
 
--- ---- all three
+-- ---- texts: certainties 1 and 2 of `read` and `line`, which are lent a buffer, by what it holds before and after
+
+abbrev pub Read : (text words : List ℕ) → Reading → (after : List ℕ) → Type 0
+Read text words r after = Says text words (leaves (of-reading r) after)
+
+abbrev pub Line : Answer → ℕ → (out : List ℕ) → Printed → (after : List ℕ) → Type 0
+Line answer n out r after = leaves (of-printed r) after ≡ lines.printed (lines.line n (of-answer answer)) out
+
+-- "Every program text": its numbers stand in front of the lent buffer, or it is refused by 1 or 2; "A refusal .. writes into no lent buffer."
+pub data ReadAnswered (text words : List ℕ) : Reading → (after : List ℕ) → Type 0 where
+  numbers : {vs : List ℕ} → Text text vs → ReadAnswered text words (reading-is.Read (length vs)) (vs ++ drop (length vs) words)
+  no-text : {place : ℕ} → ((vs : List ℕ) → Text text vs → ⊥) → Longest text place → ReadAnswered text words (reading-is.Refused 1 place) words
+  too-much : ReadAnswered text words (reading-is.Refused 2 0) words
+
+-- the line stands in front of the lent buffer, or the buffer is shorter, which is 2 at 0, and stays as it was
+pub data LineAnswered (line out : List ℕ) : Printed → (after : List ℕ) → Type 0 where
+  written : length line ≤ length out → LineAnswered line out (printed-is.Wrote (length line)) (line ++ drop (length line) out)
+  short : length out < length line → LineAnswered line out printed-is.Short out
+
+pub record OfTexts : Type 0 where
+  pub read : (text words : List ℕ) (r : Reading) (after : List ℕ) → Read text words r after → ReadAnswered text words r after
+  pub line : (answer : Answer) (n : ℕ) (out : List ℕ) (r : Printed) (after : List ℕ) → Line answer n out r after → LineAnswered (lines.line n (of-answer answer)) out r after
+  -- one answer and one buffer afterwards
+  pub one-read : (text words : List ℕ) → One (λ (x : Reading × List ℕ). Read text words (x .0) (x .1))
+  pub one-line : (answer : Answer) (n : ℕ) (out : List ℕ) → One (λ (x : Printed × List ℕ). Line answer n out (x .0) (x .1))
+
+-- ---- all of it
 
 pub record Certainties : Type 0 where
   pub always-an-answer : AlwaysAnAnswer
   pub as-document-01-says : AsDocument01Says
   pub every-run-ends-inside : EveryRunEndsInside
+  pub of-texts : OfTexts
