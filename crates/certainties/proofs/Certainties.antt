@@ -1,14 +1,13 @@
 -- The page's statements, each from the theorem that it cites.
 use mathlib.Core.Path.{_≡_, refl, sym, ap, _∙_, subst}
-use mathlib.Core.Bool.{Bool, true, false, cond, false≢true}
-use mathlib.Core.List.{List, _++_}
+use mathlib.Core.Bool.{Bool, true, false, false≢true}
+use mathlib.Core.List.{List}
 use mathlib.Core.Logic.{_⊎_, inl, inr}
 use Prim.Native.Nat.{ℕ, _+_, _*_, _≤_, _<_}
 use native.Mathlib.Omega.{arith}
 use native.Mathlib.Decide.{decLe}
-use lib.Dec.{ltb}
-use lib.ListN.{length, getD, drop, replicate, length-replicate}
-use borrow.Author.Tests.{ltb-true, ltb-false}
+use lib.ListN.{length, getD, replicate, length-replicate}
+use Rattle.ranges.specs.declared.Range.{Range}
 use Rattle.ranges.specs.Ranges as ranges
 use Rattle.states.specs.declared.State.{State}
 use Rattle.states.specs.declared.Cell.{Cell}
@@ -50,22 +49,9 @@ use Rattle.analysis.specs.Entries.{marked}
 use Rattle.analysis.specs.Outcomes.{looped}
 use Rattle.analysis.proofs.Says.{answered-good, answered-refused}
 use Rattle.analysis.proofs.Entries.{too-long, too-wide, too-deep, let-in, analysed-unadmitted, analysed-bad, analysed-read, entered-none, marks-none}
-use Rattle.text.specs.declared.Reading.{Reading}
-use Rattle.text.specs.declared.Reading.the-variants as reading-is
-use Rattle.text.specs.declared.Printed.{Printed}
-use Rattle.text.specs.declared.Printed.the-variants as printed-is
-use Rattle.text.specs.Answers as outcomes
-use Rattle.text.specs.Answers.{Outcome, leaves, of-reading, of-printed, of-answer}
-use Rattle.text.specs.Line as lines
-use Rattle.text.specs.Says.{Says}
-use Rattle.text.specs.Grammar.{Text}
-use Rattle.text.specs.Machine.{outcome}
-use Rattle.text.proofs.Agree.{text-or-place, says}
-use Rattle.text.proofs.Only as only
-use Rattle.text.proofs.Only.{reading-once, printed-once}
 use Rattle.certainties.proofs.Numbers.{every-number}
 use Rattle.certainties.specs.Certainties as page
-use Rattle.certainties.specs.Certainties.{Input, Analyse, AnalyseMarked, AnalyseLoop, Read, Line, One, Certainties}
+use Rattle.certainties.specs.Certainties.{Input, Analyse, AnalyseMarked, AnalyseLoop, One, Certainties}
 
 -- ---- 1. Always an answer
 
@@ -113,21 +99,46 @@ always-an-answer = record {
 equal : {A : Type 0} (a : A) → One (λ (r : A). r ≡ a)
 equal a = record { answer = a; is = refl; only = λ other e. e }
 
--- the lowest range whose start is over its end
-start-over-end : (n : ℕ) (cs : List Cell) → length cs ≡ 64 → n ≤ 64 → (v : ℕ) → v < n → ranges.crossed (states.get (states.live cs) v) ≡ true →
-    ((w : ℕ) → w < v → ranges.crossed (states.get (states.live cs) w) ≡ false) → starts.started n cs ≡ Refuses 7 v
-start-over-end n cs long small v h q low = go (starts.started n cs) (started-says n cs long)
-  where
-    go : (a : Answer State) → Said n cs a → a ≡ Refuses 7 v
-    go a (too-many k) = absurd (omega arith)
-    go a (lowest w k lt c first) = ap (Refuses 7) (same (decLe w v) (decLe v w))
-      where
-        same : Dec (w ≤ v) → Dec (v ≤ w) → w ≡ v
-        same (yes x) (yes y) = omega arith
-        same (no x) y = absurd (false≢true (sym (first v (omega arith)) ∙ q))
-        same (yes x) (no y) = absurd (false≢true (sym (low w (omega arith)) ∙ c))
-    go a (one-empty w k proper lt e) = absurd (false≢true (sym (proper v h) ∙ q))
-    go a (as-given k proper filled) = absurd (false≢true (sym (proper v h) ∙ q))
+-- the caller's starting ranges
+module _ (n : ℕ) (cs : List Cell) (long : length cs ≡ 64) (small : n ≤ 64) where
+  abbrev range : ℕ → Range
+  range v = states.get (states.live cs) v
+
+  start-over-end : (v : ℕ) → v < n → ranges.crossed (range v) ≡ true → ((w : ℕ) → w < v → ranges.crossed (range w) ≡ false) → starts.started n cs ≡ Refuses 7 v
+  start-over-end v h q low = go (starts.started n cs) (started-says n cs long)
+    where
+      go : (a : Answer State) → Said n cs a → a ≡ Refuses 7 v
+      go a (too-many k) = absurd (omega arith)
+      go a (lowest w k lt c first) = ap (Refuses 7) (same (decLe w v) (decLe v w))
+        where
+          same : Dec (w ≤ v) → Dec (v ≤ w) → w ≡ v
+          same (yes x) (yes y) = omega arith
+          same (no x) y = absurd (false≢true (sym (first v (omega arith)) ∙ q))
+          same (yes x) (no y) = absurd (false≢true (sym (low w (omega arith)) ∙ c))
+      go a (one-empty w k proper lt e) = absurd (false≢true (sym (proper v h) ∙ q))
+      go a (as-given k proper filled) = absurd (false≢true (sym (proper v h) ∙ q))
+
+  starts-as-given : ((v : ℕ) → v < n → (ranges.crossed (range v) ≡ false) × (ranges.is-empty (range v) ≡ false)) → starts.started n cs ≡ Gives (states.live (starts.first-cells n cs))
+  starts-as-given fine = go (starts.started n cs) (started-says n cs long)
+    where
+      go : (a : Answer State) → Said n cs a → a ≡ Gives (states.live (starts.first-cells n cs))
+      go a (too-many k) = absurd (omega arith)
+      go a (lowest w k lt c first) = absurd (false≢true (sym (fine w lt .0) ∙ c))
+      go a (one-empty w k proper lt e) = absurd (false≢true (sym (fine w lt .1) ∙ e))
+      go a (as-given k proper filled) = refl
+
+  starts-empty : (v : ℕ) → ((w : ℕ) → w < n → ranges.crossed (range w) ≡ false) → v < n → ranges.is-empty (range v) ≡ true → starts.started n cs ≡ Gives states.empty
+  starts-empty v fine h e = go (starts.started n cs) (started-says n cs long)
+    where
+      go : (a : Answer State) → Said n cs a → a ≡ Gives states.empty
+      go a (too-many k) = absurd (omega arith)
+      go a (lowest w k lt c first) = absurd (false≢true (sym (fine w lt) ∙ c))
+      go a (one-empty w k proper lt e) = refl
+      go a (as-given k proper filled) = absurd (false≢true (sym (filled v h) ∙ e))
+
+-- within the limits they decide
+started : (i : Input) → page.Within i → answers.admitted (i .words) (i .n) (i .unroll) (i .start .cells) ≡ starts.started (i .n) (i .start .cells)
+started i w = sym (let-in (i .words) (i .n) (i .unroll) (i .start .cells) (w .words) (w .variables) (w .unroll))
 
 over-a-limit : (i : Input) (r : code.Answer) → Analyse i r → (8192 < length (i .words)) ⊎ (64 < i .n) ⊎ (10000 < i .unroll) → r ≡ answered (Refuses 4 0)
 over-a-limit i r e over = e ∙ ap answered (analysed-unadmitted (i .words) (i .n) (i .unroll) (i .start .cells) (sym (go over (decLe (length (i .words)) 8192) (decLe (i .n) 64))))
@@ -142,8 +153,9 @@ over-a-limit i r e over = e ∙ ap answered (analysed-unadmitted (i .words) (i .
 as-document-01-says : page.AsDocument01Says
 as-document-01-says = record {
   over-a-limit = over-a-limit;
-  start-over-end = λ i r e a b c v h q low. e ∙ ap answered (analysed-unadmitted (i .words) (i .n) (i .unroll) (i .start .cells)
-      (sym (let-in (i .words) (i .n) (i .unroll) (i .start .cells) a b c) ∙ start-over-end (i .n) (i .start .cells) (i .sixty-four) b v h q low));
+  start-over-end = λ i r v e w h q low. e ∙ ap answered (analysed-unadmitted (i .words) (i .n) (i .unroll) (i .start .cells) (started i w ∙ start-over-end (i .n) (i .start .cells) (i .sixty-four) (w .variables) v h q low));
+  as-given = λ i w fine. started i w ∙ starts-as-given (i .n) (i .start .cells) (i .sixty-four) (w .variables) fine;
+  one-empty = λ i v w fine h e. started i w ∙ starts-empty (i .n) (i .start .cells) (i .sixty-four) (w .variables) v fine h e;
   bad-word = λ i r s number place e start bad. e ∙ ap answered (analysed-bad (i .words) (i .n) (i .unroll) (i .start .cells) start bad);
   by-the-rules = λ i r s p e start. e ∙ ap answered (analysed-read (i .words) (i .n) (i .unroll) (i .start .cells) start (is-read p));
   programs = λ words n. (λ u. sound-is-program words n (sym (u .1)) .program, λ p. (used (p .tree), sym (program-is-sound words n p)));
@@ -164,7 +176,7 @@ covers : (i : Input) (r : code.Answer) → Analyse i r → r .verdict ≡ Good �
 covers i r e g = certain .analysed (i .words) (i .n) (i .start .cells) (i .unroll) (r .state) (i .sixty-four) (answered-good (answers.analysed (i .words) (i .n) (i .start .cells) (i .unroll)) e g)
 
 -- the words code one program
-ends-inside : (i : Input) (r : code.Answer) (p : IsProgram (i .n) (i .words)) (σ τ : Store) → Analyse i r → r .verdict ≡ Good → Holds (i .n) (states.live (i .start .cells)) σ → Runs (p .tree) σ τ → Holds (i .n) (r .state) τ
+ends-inside : (i : Input) (r : code.Answer) (p : IsProgram (i .n) (i .words)) (σ τ : Store) → Analyse i r → r .verdict ≡ Good → page.Begins i σ → Runs (p .tree) σ τ → Holds (i .n) (r .state) τ
 ends-inside i r p σ τ e g h run = let c = covers i r e g in c .covers σ τ h (subst (λ (t : Statements). Runs t σ τ) (code-injective (p .tree) (c .program .tree) (sym (p .is) ∙ c .program .is)) run)
 
 loop-good : (a : Answer Looped) (r : LoopAnswer) → r ≡ looped a → r .verdict ≡ Good → (l : Looped) × (a ≡ Gives l) × (r ≡ looped (Gives l))
@@ -196,7 +208,7 @@ room i {t} a = go (decLe (length (i .words)) 8192)
         let b = analysed-unadmitted (i .words) (i .n) (i .unroll) (i .start .cells) (sym (too-long (i .words) (i .n) (i .unroll) (i .start .cells) (omega arith))) in
         absurd (let z : _≡_ {A = ℕ} 0 1 = cc in omega arith)
 
-gone-over : (i : Input) (s : State) (p : IsProgram (i .n) (i .words)) (v : Visit) → page.Admitted i s → ListVisits (page.setting i) (p .tree) 1 s v → page.passes (page.setting i) v ≤ 201 + rules.turns (page.setting i) (v .unroll) + 2 * i .n
+gone-over : (i : Input) (s : State) (p : IsProgram (i .n) (i .words)) (v : Visit) → page.Starts i s → ListVisits (page.setting i) (p .tree) 1 s v → page.passes (page.setting i) v ≤ 201 + rules.turns (page.setting i) (v .unroll) + 2 * i .n
 gone-over i s p v start visits =
     let A = sure-of (admitted-ok (i .words) (i .n) (i .unroll) (i .start .cells) (i .sixty-four)) start in
     visit-most (page.setting i) (A .small) v (list-visits (page.setting i) (A .small) (p .tree) 1 s v (below (i .n) (p .within)) (A .fit) visits)
@@ -212,85 +224,13 @@ every-run-ends-inside = record {
   dead = dead;
 }
   where
-    dead : (i : Input) (r : Marked) (p : IsProgram (i .n) (i .words)) (place : ℕ) (σ : Store) → AnalyseMarked i r → r .answer .verdict ≡ Good → getD (r .marks) place 0 ≡ 0 → Holds (i .n) (states.live (i .start .cells)) σ → ListEnters (p .tree) 1 σ place → ⊥
+    dead : (i : Input) (r : Marked) (p : IsProgram (i .n) (i .words)) (place : ℕ) (σ : Store) → AnalyseMarked i r → r .answer .verdict ≡ Good → getD (r .marks) place 0 ≡ 0 → page.Begins i σ → ListEnters (p .tree) 1 σ place → ⊥
     dead i r p place σ e g unmarked =
         let a = answered-good (answers.analysed (i .words) (i .n) (i .start .cells) (i .unroll)) (ap (λ (m : Marked). m .answer) e) g in
         certain .marked (i .words) (i .n) (i .start .cells) (i .unroll) (r .answer .state) (replicate 8192 0) place (i .sixty-four) a (rw length-replicate (room i a))
         (ap (λ (m : List ℕ). getD m place 0) (sym (ap (λ (m : Marked). m .marks) e)) ∙ unmarked) p σ
 
--- ---- texts
-
-read-answered : (text words : List ℕ) (r : Reading) (after : List ℕ) → Read text words r after → page.ReadAnswered text words r after
-read-answered text words r after s = size (decLe (length text) 65536)
-  where
-    of : (q : Reading) (x : List ℕ) → leaves (of-reading r) after ≡ leaves (of-reading q) x → page.ReadAnswered text words q x → page.ReadAnswered text words r after
-    of q x e h = subst (λ (p : Reading). page.ReadAnswered text words p after) (sym (reading-once r q (ap (λ (o : Outcome). o .answer) e))) (subst (page.ReadAnswered text words q) (sym (ap (λ (o : Outcome). o .buffer) e)) h)
-
-    fits : length text ≤ 65536 → (vs : List ℕ) → Text text vs → Dec (length vs ≤ 8192) → Dec (length vs ≤ length words) → page.ReadAnswered text words r after
-    fits h vs t (yes a) (yes b) = of (reading-is.Read (length vs)) (vs ++ drop (length vs) words) (s .fits h vs t a b) (page.numbers t)
-    fits h vs t (no a) b = of (reading-is.Refused 2 0) words (s .many h vs t (inl (omega arith))) page.too-much
-    fits h vs t (yes a) (no b) = of (reading-is.Refused 2 0) words (s .many h vs t (inr (omega arith))) page.too-much
-
-    size : Dec (length text ≤ 65536) → page.ReadAnswered text words r after
-    size (no h) = of (reading-is.Refused 2 0) words (s .long (omega arith)) page.too-much
-    size (yes h) = elim (text-or-place text) [
-      | inl t ↦ fits h (t .0) (t .1) (decLe (length (t .0)) 8192) (decLe (length (t .0)) (length words))
-      | inr p ↦ of (reading-is.Refused 1 (p .0)) words (s .broken h (p .1) (p .0) (p .2)) (page.no-text (p .1) (p .2))
-    ]
-
-line-answered : (answer : code.Answer) (n : ℕ) (out : List ℕ) (r : Printed) (after : List ℕ) → Line answer n out r after → page.LineAnswered (lines.line n (of-answer answer)) out r after
-line-answered answer n out r after e = go (ltb (length out) (length line)) refl e
-  where
-    line : List ℕ
-    line = lines.line n (of-answer answer)
-
-    of : (q : Printed) (x : List ℕ) → leaves (of-printed r) after ≡ leaves (of-printed q) x → page.LineAnswered line out q x → page.LineAnswered line out r after
-    of q x e h = subst (λ (p : Printed). page.LineAnswered line out p after) (sym (printed-once r q (ap (λ (o : Outcome). o .answer) e))) (subst (page.LineAnswered line out q) (sym (ap (λ (o : Outcome). o .buffer) e)) h)
-
-    go : (b : Bool) → ltb (length out) (length line) ≡ b → leaves (of-printed r) after ≡ cond b (outcomes.refused 2 0 out) (outcomes.done line out) → page.LineAnswered line out r after
-    go true q e = of printed-is.Short out e (page.short (ltb-true (length out) (length line) q))
-    go false q e = of (printed-is.Wrote (length line)) (line ++ drop (length line) out) e (page.written (ltb-false (length out) (length line) q))
-
--- the reader's answer as the code has it
-as-reading : Answer ℕ → Reading
-as-reading (Gives count) = reading-is.Read count
-as-reading (Refuses number place) = reading-is.Refused number place
-
-read-back : (a : Answer ℕ) → of-reading (as-reading a) ≡ a
-unfolding as-reading
-read-back (Gives count) = refl
-read-back (Refuses number place) = refl
-
-read-one : (text words : List ℕ) → One (λ (x : Reading × List ℕ). Read text words (x .0) (x .1))
-read-one text words =
-    let o = outcome text words in
-    let s : Read text words (as-reading (o .answer)) (o .buffer) = subst (λ (a : Answer ℕ). Says text words (leaves a (o .buffer))) (sym (read-back (o .answer))) (says text words) in
-    record {
-      answer = (as-reading (o .answer), o .buffer);
-      is = s;
-      only = λ x t. let e = only.read text words (x .0) (as-reading (o .answer)) (x .1) (o .buffer) t s in λ i. (e .0 i, e .1 i);
-    }
-
-line-one : (answer : code.Answer) (n : ℕ) (out : List ℕ) → One (λ (x : Printed × List ℕ). Line answer n out (x .0) (x .1))
-line-one answer n out =
-    let s = made (ltb (length out) (length line)) in
-    record {
-      answer = s .0;
-      is = s .1;
-      only = λ x t. let e = only.line answer n out (x .0) (s .0 .0) (x .1) (s .0 .1) t (s .1) in λ i. (e .0 i, e .1 i);
-    }
-  where
-    line : List ℕ
-    line = lines.line n (of-answer answer)
-
-    made : (b : Bool) → (x : Printed × List ℕ) × (leaves (of-printed (x .0)) (x .1) ≡ cond b (outcomes.refused 2 0 out) (outcomes.done line out))
-    made true = ((printed-is.Short, out), refl)
-    made false = ((printed-is.Wrote (length line), outcomes.done line out .buffer), refl)
-
-of-texts : page.OfTexts
-of-texts = record { read = read-answered; line = line-answered; one-read = read-one; one-line = line-one }
-
--- ---- all of it
+-- ---- all three
 
 pub certainties : Certainties
-certainties = record { always-an-answer = always-an-answer; as-document-01-says = as-document-01-says; every-run-ends-inside = every-run-ends-inside; of-texts = of-texts }
+certainties = record { always-an-answer = always-an-answer; as-document-01-says = as-document-01-says; every-run-ends-inside = every-run-ends-inside }

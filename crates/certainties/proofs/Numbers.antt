@@ -8,7 +8,6 @@ use Rattle.ranges.specs.declared.Range.{Range}
 use Rattle.ranges.specs.declared.Range.the-variants.{Span}
 use Rattle.ranges.specs.Ranges as ranges
 use Rattle.states.specs.Answers.{Refuses, answered}
-use Rattle.states.specs.States as states
 use Rattle.states.specs.Starts as starts
 use Rattle.paper.specs.Reader as reader
 use Rattle.paper.specs.Rules as rules

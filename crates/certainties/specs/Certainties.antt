@@ -1,11 +1,12 @@
--- The three certainties, on one page, about what the functions answer. `certainties` of proofs/Certainties.antt proves them.
+-- The three certainties, on one page, about what the functions answer. `certainties` of proofs/Certainties.antt proves them. Of texts: Texts.
 -- The words used here have their definitions in crate paper: a program Tree, Code, Limits, Reader; the rules Rules, Visits, Trace, Answers; a run Runs, Entries.
 use mathlib.Core.Path.{_≡_}
 use mathlib.Core.Bool.{true, false}
-use mathlib.Core.List.{List, [], _∷_, _++_}
+use mathlib.Core.List.{List, [], _∷_}
 use mathlib.Core.Logic.{_⊎_, _↔_}
 use Prim.Native.Nat.{ℕ, _+_, _*_, _≤_, _<_}
-use lib.ListN.{length, getD, drop, replicate}
+use lib.ListN.{length, getD, replicate}
+use Rattle.ranges.specs.declared.Range.{Range}
 use Rattle.ranges.specs.Ranges as ranges
 use Rattle.states.specs.declared.State.{State}
 use Rattle.states.specs.declared.Start.{Start}
@@ -13,6 +14,7 @@ use Rattle.states.specs.declared.Verdict.the-variants.{Good, Refused}
 use Rattle.states.specs.declared.Answer.{Answer}
 use Rattle.states.specs.Answers.{Gives, Refuses, answered}
 use Rattle.states.specs.States as states
+use Rattle.states.specs.Starts as starts
 use Rattle.paper.specs.Tree.{Unroll, Event, While, Statements, done, _then_}
 use Rattle.paper.specs.Limits.{IsProgram}
 use Rattle.paper.specs.Reader as reader
@@ -31,18 +33,10 @@ use Rattle.analysis.specs.declared.Marked.{Marked}
 use Rattle.analysis.specs.declared.LoopAnswer.{LoopAnswer}
 use Rattle.analysis.specs.Entries.{marked}
 use Rattle.analysis.specs.Outcomes.{looped}
-use Rattle.text.specs.declared.Reading.{Reading}
-use Rattle.text.specs.declared.Reading.the-variants as reading-is
-use Rattle.text.specs.declared.Printed.{Printed}
-use Rattle.text.specs.declared.Printed.the-variants as printed-is
-use Rattle.text.specs.Grammar.{Text, Longest}
-use Rattle.text.specs.Says.{Says}
-use Rattle.text.specs.Answers.{leaves, of-reading, of-printed, of-answer}
-use Rattle.text.specs.Line as lines
 
--- ---- what the functions answer: the equation that each one's contract proves of its result r (src/lib.rt holds this page to the contracts)
+-- ---- what a caller hands over, and what the functions answer
 
--- what a caller hands over: words, n, starting ranges and a default unroll, all of any value; the ranges are 64 by their type
+-- words, n, starting ranges and a default unroll, each of any value; the ranges are 64 by their type
 pub record Input : Type 0 where
   pub words : List ℕ
   pub n : ℕ
@@ -50,6 +44,7 @@ pub record Input : Type 0 where
   pub unroll : ℕ
   pub sixty-four : length (start .cells) ≡ 64
 
+-- r is the answer: the equations that the contracts prove, for every input (src/lib.rt holds them to the contracts)
 abbrev pub Analyse : Input → Answer → Type 0
 Analyse i r = r ≡ answered (answers.analysed (i .words) (i .n) (i .start .cells) (i .unroll))
 
@@ -67,9 +62,10 @@ Used words r = r ≡ used-of (reader.program words 64)
 
 -- ---- 1. Always an answer
 
--- "a range for each variable", its start at most its end, and [0,0] where no variable is; or "the answer empty", which is one value
+-- "a range for each variable", its start at most its end, with [0,0] where there is no variable; or "the answer empty", which is one value
 pub data IsState (n : ℕ) : State → Type 0 where
-  each-a-range : {s : State} → s .live ≡ true → ((v : ℕ) → v < n → (ranges.is-empty (states.get s v) ≡ false) × (ranges.crossed (states.get s v) ≡ false)) → ((v : ℕ) → n ≤ v → states.get s v ≡ ranges.point 0) → IsState n s
+  each-a-range : {s : State} → s .live ≡ true → ((v : ℕ) → v < n → (ranges.is-empty (states.get s v) ≡ false) × (ranges.crossed (states.get s v) ≡ false)) →
+      ((v : ℕ) → n ≤ v → states.get s v ≡ ranges.point 0) → IsState n s
   empty : IsState n states.empty
 
 -- "Every .. word list and starting state gets a range for each variable, the answer empty, or one numbered refusal with its place. .. A refusal hands back no state"
@@ -82,7 +78,7 @@ pub data LoopAnswered (n : ℕ) : LoopAnswer → Type 0 where
   loop : {r : LoopAnswer} → r .verdict ≡ Good → IsState n (r .exits) → IsState n (r .turned) → IsState n (r .settled) → LoopAnswered n r
   refusal : (number place : ℕ) → 3 ≤ number → number ≤ 10 → LoopAnswered n (looped (Refuses number place))
 
--- of the check alone
+-- and of the check
 pub data CheckAnswered : Checked → Type 0 where
   sound : (variables : ℕ) → CheckAnswered (checked-is.Sound variables)
   refusal : (number place : ℕ) → 3 ≤ number → number ≤ 6 → CheckAnswered (checked-is.Refused number place)
@@ -99,31 +95,42 @@ pub record AlwaysAnAnswer : Type 0 where
 
 -- ---- 2. Document 01's refusals and ranges
 
+-- what is within the limits that come before the words; the caller's range of a variable; the starting state that they make
+pub record Within (i : Input) : Type 0 where
+  pub words : length (i .words) ≤ 8192
+  pub variables : i .n ≤ 64
+  pub unroll : i .unroll ≤ 10000
+
+abbrev pub range : Input → ℕ → Range
+range i v = states.get (states.live (i .start .cells)) v
+
+abbrev pub Starts : Input → State → Type 0
+Starts i s = answers.admitted (i .words) (i .n) (i .unroll) (i .start .cells) ≡ Gives s
+
+abbrev pub setting : Input → Setting
+setting i = record { n = i .n; unroll = i .unroll }
+
 -- there is one answer, and only one
 pub record One {A : Type 0} (Is : A → Type 0) : Type 0 where
   pub answer : A
   pub is : Is answer
   pub only : (other : A) → Is other → other ≡ answer
 
--- the starting state that is admitted, and the caller's setting
-abbrev pub Admitted : Input → State → Type 0
-Admitted i s = answers.admitted (i .words) (i .n) (i .unroll) (i .start .cells) ≡ Gives s
-
-abbrev pub setting : Input → Setting
-setting i = record { n = i .n; unroll = i .unroll }
-
 -- "Which inputs are refused, with which number and place, and the ranges of all others are proved to be what document 01 says."
 -- (That they are the Rust's wherever it returns is shown by runs of both: no theorem speaks of the Rust.)
 pub record AsDocument01Says : Type 0 where
-  -- "Analysis: list length, n, default unroll, 7, then words left to right; .. 8 to 10 come at the first place reached"
+  -- "Analysis: list length, n, default unroll,"
   pub over-a-limit : (i : Input) (r : Answer) → Analyse i r → (8192 < length (i .words)) ⊎ (64 < i .n) ⊎ (10000 < i .unroll) → r ≡ answered (Refuses 4 0)
-  pub start-over-end : (i : Input) (r : Answer) → Analyse i r → length (i .words) ≤ 8192 → i .n ≤ 64 → i .unroll ≤ 10000 →
-      (v : ℕ) → v < i .n → ranges.crossed (states.get (states.live (i .start .cells)) v) ≡ true → ((w : ℕ) → w < v → ranges.crossed (states.get (states.live (i .start .cells)) w) ≡ false) → r ≡ answered (Refuses 7 v)
-  pub bad-word : (i : Input) (r : Answer) (s : State) (number place : ℕ) → Analyse i r → Admitted i s → reader.program (i .words) (i .n) ≡ reader.Bad number place → r ≡ answered (Refuses number place)
-  pub by-the-rules : (i : Input) (r : Answer) (s : State) (p : IsProgram (i .n) (i .words)) → Analyse i r → Admitted i s → r ≡ answered (rules.list (setting i) 1 (p .tree) s)
-  -- the check passes just the codes of programs within the limits
+  -- "7," at the lowest variable whose start is over its end; where there is none, the ranges start, and "one Empty among them makes it empty"
+  pub start-over-end : (i : Input) (r : Answer) (v : ℕ) → Analyse i r → Within i → v < i .n → ranges.crossed (range i v) ≡ true → ((w : ℕ) → w < v → ranges.crossed (range i w) ≡ false) → r ≡ answered (Refuses 7 v)
+  pub as-given : (i : Input) → Within i → ((v : ℕ) → v < i .n → (ranges.crossed (range i v) ≡ false) × (ranges.is-empty (range i v) ≡ false)) → Starts i (states.live (starts.first-cells (i .n) (i .start .cells)))
+  pub one-empty : (i : Input) (v : ℕ) → Within i → ((w : ℕ) → w < i .n → ranges.crossed (range i w) ≡ false) → v < i .n → ranges.is-empty (range i v) ≡ true → Starts i states.empty
+  -- "then words left to right; the first bad word decides,"
+  pub bad-word : (i : Input) (r : Answer) (s : State) (number place : ℕ) → Analyse i r → Starts i s → reader.program (i .words) (i .n) ≡ reader.Bad number place → r ≡ answered (Refuses number place)
   pub programs : (words : List ℕ) (n : ℕ) → ((u : ℕ) × Check words n (checked-is.Sound u)) ↔ IsProgram n words
-  -- "Prove that no two different answers satisfy it": neither result nor lent buffer
+  -- and a program goes by the rules of the analysis, from which 8 to 10 come
+  pub by-the-rules : (i : Input) (r : Answer) (s : State) (p : IsProgram (i .n) (i .words)) → Analyse i r → Starts i s → r ≡ answered (rules.list (setting i) 1 (p .tree) s)
+  -- "Prove that no two different answers satisfy it"
   pub analyse : (i : Input) → One (Analyse i)
   pub analyse-marked : (i : Input) → One (AnalyseMarked i)
   pub analyse-loop : (i : Input) → One (AnalyseLoop i)
@@ -133,6 +140,10 @@ pub record AsDocument01Says : Type 0 where
   pub table : Table
 
 -- ---- 3. Every run ends inside
+
+-- a run begins in any store that lies in each of the caller's first n ranges; its values are of any size
+abbrev pub Begins : Input → Store → Type 0
+Begins i σ = Holds (i .n) (states.live (i .start .cells)) σ
 
 -- how often a loop's body is gone over: its passes, each written down as one place
 abbrev pub passes : Setting → Visit → ℕ
@@ -145,56 +156,28 @@ pub record LoopCertain (i : Input) (r : LoopAnswer) : Type 0 where
   pub event : Event
   pub body : Statements
   pub one-loop : program .tree ≡ (While unroll event body then done)
-  pub ends-inside : (k : ℕ) (σ τ : Store) → Holds (i .n) (states.live (i .start .cells)) σ → Turned event body k σ τ → False event τ → Holds (i .n) (r .exits) τ
-  pub settled : (k : ℕ) (σ τ : Store) → r .unrolls ≤ k → Holds (i .n) (states.live (i .start .cells)) σ → Turned event body k σ τ → Holds (i .n) (r .settled) τ
+  pub ends-inside : (k : ℕ) (σ τ : Store) → Begins i σ → Turned event body k σ τ → False event τ → Holds (i .n) (r .exits) τ
   pub gone-over : r .searched + r .unrolls + r .joined + r .widened ≤ 201 + rules.turns (setting i) unroll + 2 * i .n
+  pub settled : (k : ℕ) (σ τ : Store) → r .unrolls ≤ k → Begins i σ → Turned event body k σ τ → Holds (i .n) (r .settled) τ
 
--- a run begins in any store that lies in each of the caller's first n ranges, and its values are of any size
 pub record EveryRunEndsInside : Type 0 where
   -- "When ranges (or empty) come back for a starting state, every finite run from that state that does not fail ends inside them (where empty, none ends)."
   pub program : (i : Input) (r : Answer) → Analyse i r → r .verdict ≡ Good → IsProgram (i .n) (i .words)
-  pub ends-inside : (i : Input) (r : Answer) (p : IsProgram (i .n) (i .words)) (σ τ : Store) → Analyse i r → r .verdict ≡ Good → Holds (i .n) (states.live (i .start .cells)) σ → Runs (p .tree) σ τ → Holds (i .n) (r .state) τ
-  pub none-ends : (i : Input) (r : Answer) (p : IsProgram (i .n) (i .words)) (σ τ : Store) → Analyse i r → r .verdict ≡ Good → r .state ≡ states.empty → Holds (i .n) (states.live (i .start .cells)) σ → Runs (p .tree) σ τ → ⊥
-  -- "Each time a loop is analysed its body is gone over at most 201 + U + 2n times," also an inner one, and also where a refusal follows
-  pub gone-over : (i : Input) (s : State) (p : IsProgram (i .n) (i .words)) (v : Visit) → Admitted i s → ListVisits (setting i) (p .tree) 1 s v → passes (setting i) v ≤ 201 + rules.turns (setting i) (v .unroll) + 2 * i .n
+  pub ends-inside : (i : Input) (r : Answer) (p : IsProgram (i .n) (i .words)) (σ τ : Store) → Analyse i r → r .verdict ≡ Good → Begins i σ → Runs (p .tree) σ τ → Holds (i .n) (r .state) τ
+  pub none-ends : (i : Input) (r : Answer) (p : IsProgram (i .n) (i .words)) (σ τ : Store) → Analyse i r → r .verdict ≡ Good → r .state ≡ states.empty → Begins i σ → Runs (p .tree) σ τ → ⊥
+  -- "Each time a loop is analysed its body is gone over at most 201 + U + 2n times," also an inner one, and where a refusal follows too
+  pub gone-over : (i : Input) (s : State) (p : IsProgram (i .n) (i .words)) (v : Visit) → Starts i s → ListVisits (setting i) (p .tree) 1 s v → passes (setting i) v ≤ 201 + rules.turns (setting i) (v .unroll) + 2 * i .n
   -- "and the state it settles on holds every run that reaches the loop's head after the unrolled turns."
-  pub settled : (i : Input) (s : State) (p : IsProgram (i .n) (i .words)) (v : Visit) (l : Looped) → Admitted i s → ListVisits (setting i) (p .tree) 1 s v → analysed-at (setting i) v ≡ Gives l →
+  pub settled : (i : Input) (s : State) (p : IsProgram (i .n) (i .words)) (v : Visit) (l : Looped) → Starts i s → ListVisits (setting i) (p .tree) 1 s v → analysed-at (setting i) v ≡ Gives l →
       (k : ℕ) (σ τ : Store) → l .unrolls ≤ k → Holds (i .n) (v .from) σ → Turned (v .event) (v .body) k σ τ → Holds (i .n) (l .settled) τ
-  -- of the counts and the settled state that the loop's own entry hands back
+  -- the same of the counts and the settled state that a loop's own entry hands back
   pub analyse-loop : (i : Input) (r : LoopAnswer) → AnalyseLoop i r → r .verdict ≡ Good → LoopCertain i r
-  -- a list whose mark is 0 is entered by no run, also by none that never ends
-  pub dead : (i : Input) (r : Marked) (p : IsProgram (i .n) (i .words)) (place : ℕ) (σ : Store) → AnalyseMarked i r → r .answer .verdict ≡ Good → getD (r .marks) place 0 ≡ 0 → Holds (i .n) (states.live (i .start .cells)) σ → ListEnters (p .tree) 1 σ place → ⊥
+  -- and a list whose mark is 0 is entered by no run, nor by the beginning of one that never ends
+  pub dead : (i : Input) (r : Marked) (p : IsProgram (i .n) (i .words)) (place : ℕ) (σ : Store) → AnalyseMarked i r → r .answer .verdict ≡ Good → getD (r .marks) place 0 ≡ 0 → Begins i σ → ListEnters (p .tree) 1 σ place → ⊥
 
--- ---- texts: certainties 1 and 2 of `read` and `line`, which are lent a buffer, by what it holds before and after
-
-abbrev pub Read : (text words : List ℕ) → Reading → (after : List ℕ) → Type 0
-Read text words r after = Says text words (leaves (of-reading r) after)
-
-abbrev pub Line : Answer → ℕ → (out : List ℕ) → Printed → (after : List ℕ) → Type 0
-Line answer n out r after = leaves (of-printed r) after ≡ lines.printed (lines.line n (of-answer answer)) out
-
--- "Every program text": its numbers stand in front of the lent buffer, or it is refused by 1 or 2; "A refusal .. writes into no lent buffer."
-pub data ReadAnswered (text words : List ℕ) : Reading → (after : List ℕ) → Type 0 where
-  numbers : {vs : List ℕ} → Text text vs → ReadAnswered text words (reading-is.Read (length vs)) (vs ++ drop (length vs) words)
-  no-text : {place : ℕ} → ((vs : List ℕ) → Text text vs → ⊥) → Longest text place → ReadAnswered text words (reading-is.Refused 1 place) words
-  too-much : ReadAnswered text words (reading-is.Refused 2 0) words
-
--- the line stands in front of the lent buffer, or the buffer is shorter, which is 2 at 0, and stays as it was
-pub data LineAnswered (line out : List ℕ) : Printed → (after : List ℕ) → Type 0 where
-  written : length line ≤ length out → LineAnswered line out (printed-is.Wrote (length line)) (line ++ drop (length line) out)
-  short : length out < length line → LineAnswered line out printed-is.Short out
-
-pub record OfTexts : Type 0 where
-  pub read : (text words : List ℕ) (r : Reading) (after : List ℕ) → Read text words r after → ReadAnswered text words r after
-  pub line : (answer : Answer) (n : ℕ) (out : List ℕ) (r : Printed) (after : List ℕ) → Line answer n out r after → LineAnswered (lines.line n (of-answer answer)) out r after
-  -- one answer and one buffer afterwards
-  pub one-read : (text words : List ℕ) → One (λ (x : Reading × List ℕ). Read text words (x .0) (x .1))
-  pub one-line : (answer : Answer) (n : ℕ) (out : List ℕ) → One (λ (x : Printed × List ℕ). Line answer n out (x .0) (x .1))
-
--- ---- all of it
+-- ---- all three
 
 pub record Certainties : Type 0 where
   pub always-an-answer : AlwaysAnAnswer
   pub as-document-01-says : AsDocument01Says
   pub every-run-ends-inside : EveryRunEndsInside
-  pub of-texts : OfTexts

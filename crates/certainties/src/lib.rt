@@ -9,7 +9,8 @@ use text::Reading;
 use words::Checked;
 ghost use mathlib.Core.Path.{_≡_};
 ghost use lib.ListN.{length};
-ghost use Rattle.certainties.specs.Certainties.{Analyse, AnalyseMarked, AnalyseLoop, Check, Used, Read, Line};
+ghost use Rattle.certainties.specs.Certainties.{Analyse, AnalyseMarked, AnalyseLoop, Check, Used};
+ghost use Rattle.certainties.specs.Texts.{Read, Line};
 
 fn analyse(words: &[u64], n: usize, start: Start, unroll: usize) -> Answer
     ensures { λ r. ⌜ ((long : length (start .cells) ≡ 64) → Analyse (record { words = now (words .entry); n = n; start = start; unroll = unroll; sixty-four = long }) r) ⌝ }

@@ -116,9 +116,9 @@ module _ (g : Setting) (small : g .n ≤ 64) where
         sure-then (list-ok t (code.then-at at e + 1) (u .yes) (lt .1) (U .yes .fit)) (λ a A.
         sure-then (list-ok o (code.else-at at e t + 1) (u .no) (lt .2) (U .no .fit)) (λ b B.
         given (record {
+          held = λ σ τ h r. branch-held e t o s u a b σ τ U A B h r;
           fit = fit-join (g .n) small a b (A .fit) (B .fit);
           dead = λ d. join-dead (g .n) a b (A .dead (U .yes .dead d)) (B .dead (U .no .dead d));
-          held = λ σ τ h r. branch-held e t o s u a b σ τ U A B h r;
         }))))
     statement-ok (While m e b) at s lt f =
         sure-then (looping-ok (g .n) small e b (λ h. rules.event g (at + 3) e h) (λ h. rules.list g (code.body-at at e + 1) b h)
