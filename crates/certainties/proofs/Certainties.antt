@@ -219,7 +219,7 @@ every-run-ends-inside = record {
   ends-inside = ends-inside;
   none-ends = λ i r p σ τ e g empty h run. holds-dead (ap (λ (s : State). s .live) empty) (ends-inside i r p σ τ e g h run);
   gone-over = gone-over;
-  settled = λ i s p v l start visits q. certain .each-loop (i .words) (i .n) (i .start .cells) (i .unroll) p s v l (i .sixty-four) start visits q .settled;
+  settled = λ i s p v l start visits q k σ τ after. certain .each-loop (i .words) (i .n) (i .start .cells) (i .unroll) p s v l (i .sixty-four) start visits q .settled k σ τ (omega arith);
   analyse-loop = loop-certain;
   dead = dead;
 }
