@@ -1,7 +1,7 @@
 -- The page's statements, each from the theorem that it cites.
 use mathlib.Core.Path.{_≡_, refl, sym, ap, _∙_, subst}
 use mathlib.Core.Bool.{Bool, true, false, false≢true}
-use mathlib.Core.List.{List}
+use mathlib.Core.List.{List, [], _∷_}
 use mathlib.Core.Logic.{_⊎_, inl, inr}
 use Prim.Native.Nat.{ℕ, _+_, _*_, _≤_, _<_}
 use native.Mathlib.Omega.{arith}
@@ -17,7 +17,7 @@ use Rattle.states.specs.Answers.{Answer, Gives, Refuses, answered}
 use Rattle.states.specs.States as states
 use Rattle.states.specs.Starts as starts
 use Rattle.states.proofs.Starts.{Begun, Said, too-many, lowest, one-empty, as-given, started-says}
-use Rattle.paper.specs.Tree.{Statements}
+use Rattle.paper.specs.Tree.{Unroll, Event, While, Statements, done, _then_}
 use Rattle.paper.specs.Code as code-of
 use Rattle.paper.specs.Limits.{IsProgram}
 use Rattle.paper.specs.Reader as reader
@@ -26,7 +26,7 @@ use Rattle.paper.specs.Rules as rules
 use Rattle.paper.specs.Rules.{Looped}
 use Rattle.paper.specs.Runs.{Store, Runs, Holds}
 use Rattle.paper.specs.Entries.{ListEnters}
-use Rattle.paper.specs.Visits.{Visit, ListVisits}
+use Rattle.paper.specs.Visits.{Visit, analysed-at, ListVisits}
 use Rattle.paper.specs.Used.{used}
 use Rattle.paper.specs.Answers as answers
 use Rattle.paper.specs.Promises.{Covers}
@@ -45,10 +45,11 @@ use Rattle.words.proofs.Unique.{code-injective}
 use Rattle.words.proofs.Exact.{sound-is-program, program-is-sound}
 use Rattle.analysis.specs.declared.Marked.{Marked}
 use Rattle.analysis.specs.declared.LoopAnswer.{LoopAnswer}
-use Rattle.analysis.specs.Entries.{marked}
+use Rattle.analysis.specs.Entries.{marked, begun}
 use Rattle.analysis.specs.Outcomes.{looped}
 use Rattle.analysis.proofs.Says.{answered-good, answered-refused}
 use Rattle.analysis.proofs.Entries.{too-long, too-wide, too-deep, let-in, analysed-unadmitted, analysed-bad, analysed-read, entered-none, marks-none}
+use Rattle.analysis.proofs.Entries.{begins-none, begins-other, begins-short, begins-unlike, begins-loop, looped-unbegun, looped-read}
 use Rattle.certainties.proofs.Numbers.{every-number}
 use Rattle.certainties.specs.Certainties as page
 use Rattle.certainties.specs.Certainties.{Input, Analyse, AnalyseMarked, AnalyseLoop, One, Certainties}
@@ -150,6 +151,32 @@ over-a-limit i r e over = e ∙ ap answered (analysed-unadmitted (i .words) (i .
     go (inr (inl h)) (yes a) (yes b) = absurd (omega arith)
     go (inr (inr h)) (yes a) (yes b) = too-deep (i .words) (i .n) (i .unroll) (i .start .cells) a b h
 
+-- a program's words are read
+is-read : {n : ℕ} {ws : List ℕ} (p : IsProgram n ws) → reader.program ws n ≡ Reads (p .tree) (length (code-of.program (p .tree)))
+is-read {n} {ws} p = ap (λ (l : List ℕ). reader.program l n) (p .is) ∙ code-is-read n (p .tree) (p .within)
+
+-- how a loop's own entry begins
+not-one : (ws : List ℕ) → (getD ws 0 0 ≡ 1 → ⊥) → Refused 3 0 ≡ begun (answers.begins ws)
+not-one [] h = begins-none [] refl
+not-one (x ∷ ws) h = begins-other (x ∷ ws) (omega arith) h
+
+no-loop : (ws : List ℕ) → getD ws 0 0 ≡ 1 → (getD ws 1 0 ≡ 5 → ⊥) → Refused 3 1 ≡ begun (answers.begins ws)
+no-loop [] one h = absurd (omega arith)
+no-loop (x ∷ []) one h = begins-short (x ∷ []) one refl
+no-loop (x ∷ y ∷ ws) one h = begins-unlike (x ∷ y ∷ ws) one (omega arith) h
+
+loop-begins : (ws : List ℕ) (u : Unroll) (e : Event) (b : Statements) → ws ≡ code-of.program (While u e b then done) → Good ≡ begun (answers.begins ws)
+unfolding code-of.count code-of.list code-of.statement
+loop-begins ws u e b is =
+    begins-loop ws (ap (λ (l : List ℕ). getD l 0 0) is) (omega (arith, ap length is)) (ap (λ (l : List ℕ). getD l 1 0) is)
+
+loop-by-the-rules : (i : Input) (r : LoopAnswer) (s : State) (p : IsProgram (i .n) (i .words)) (u : Unroll) (e : Event) (b : Statements) → AnalyseLoop i r → page.Starts i s → p .tree ≡ (While u e b then done) →
+    r ≡ looped (analysed-at (page.setting i) (record { unroll = u; event = e; body = b; place = 1; from = s }))
+loop-by-the-rules i r s p u e b q start one =
+    q
+    ∙ ap looped (looped-read (i .words) (i .n) (i .unroll) (i .start .cells) start (loop-begins (i .words) u e b (p .is ∙ ap code-of.program one)) (is-read p)
+    ∙ ap (λ (t : Statements). answers.only-loop (page.setting i) t s) one)
+
 as-document-01-says : page.AsDocument01Says
 as-document-01-says = record {
   over-a-limit = over-a-limit;
@@ -158,6 +185,9 @@ as-document-01-says = record {
   one-empty = λ i v w fine h e. started i w ∙ starts-empty (i .n) (i .start .cells) (i .sixty-four) (w .variables) v fine h e;
   bad-word = λ i r s number place e start bad. e ∙ ap answered (analysed-bad (i .words) (i .n) (i .unroll) (i .start .cells) start bad);
   by-the-rules = λ i r s p e start. e ∙ ap answered (analysed-read (i .words) (i .n) (i .unroll) (i .start .cells) start (is-read p));
+  not-one = λ i r s e start other. e ∙ ap looped (looped-unbegun (i .words) (i .n) (i .unroll) (i .start .cells) start (not-one (i .words) other));
+  no-loop = λ i r s e start one other. e ∙ ap looped (looped-unbegun (i .words) (i .n) (i .unroll) (i .start .cells) start (no-loop (i .words) one other));
+  loop-by-the-rules = loop-by-the-rules;
   programs = λ words n. (λ u. sound-is-program words n (sym (u .1)) .program, λ p. (used (p .tree), sym (program-is-sound words n p)));
   analyse = λ i. equal _;
   analyse-marked = λ i. equal _;
@@ -166,9 +196,6 @@ as-document-01-says = record {
   used = λ words. equal _;
   table = table;
 }
-  where
-    is-read : {n : ℕ} {ws : List ℕ} (p : IsProgram n ws) → reader.program ws n ≡ Reads (p .tree) (length (code-of.program (p .tree)))
-    is-read {n} {ws} p = ap (λ (l : List ℕ). reader.program l n) (p .is) ∙ code-is-read n (p .tree) (p .within)
 
 -- ---- 3. Every run ends inside
 

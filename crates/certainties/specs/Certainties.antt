@@ -130,6 +130,11 @@ pub record AsDocument01Says : Type 0 where
   pub programs : (words : List ℕ) (n : ℕ) → ((u : ℕ) × Check words n (checked-is.Sound u)) ↔ IsProgram n words
   -- and a program goes by the rules of the analysis, from which 8 to 10 come
   pub by-the-rules : (i : Input) (r : Answer) (s : State) (p : IsProgram (i .n) (i .words)) → Analyse i r → Starts i s → r ≡ answered (rules.list (setting i) 1 (p .tree) s)
+  -- "A loop's own entry ..; a first word other than 1 is refusal 3 at 0, a kind other than 5 is 3 at 1."
+  pub not-one : (i : Input) (r : LoopAnswer) (s : State) → AnalyseLoop i r → Starts i s → (getD (i .words) 0 0 ≡ 1 → ⊥) → r ≡ looped (Refuses 3 0)
+  pub no-loop : (i : Input) (r : LoopAnswer) (s : State) → AnalyseLoop i r → Starts i s → getD (i .words) 0 0 ≡ 1 → (getD (i .words) 1 0 ≡ 5 → ⊥) → r ≡ looped (Refuses 3 1)
+  pub loop-by-the-rules : (i : Input) (r : LoopAnswer) (s : State) (p : IsProgram (i .n) (i .words)) (u : Unroll) (e : Event) (b : Statements) → AnalyseLoop i r → Starts i s → p .tree ≡ (While u e b then done) →
+      r ≡ looped (analysed-at (setting i) (record { unroll = u; event = e; body = b; place = 1; from = s }))
   -- "Prove that no two different answers satisfy it"
   pub analyse : (i : Input) → One (Analyse i)
   pub analyse-marked : (i : Input) → One (AnalyseMarked i)
