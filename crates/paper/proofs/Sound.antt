@@ -88,6 +88,14 @@ module _ (g : Setting) (small : g .n ≤ 64) where
   branch-held e t f s u a b σ τ U A B h (went-then c d) = join-left (g .n) small a b τ (A .fit) (B .fit) (A .held σ τ (U .yes .held σ h c) d)
   branch-held e t f s u a b σ τ U A B h (went-else c d) = join-right (g .n) small a b τ (A .fit) (B .fit) (B .held σ τ (U .no .held σ h c) d)
 
+  branch-ok : (e : Event) (t f : Statements) (s : State) (u : Sides) (a b : State) → Split (g .n) e s u → Post (g .n) (Runs t) (u .yes) a → Post (g .n) (Runs f) (u .no) b →
+      Post (g .n) (Run (IfThenElse e t f)) s (states.join (g .n) a b)
+  branch-ok e t f s u a b U A B = record {
+    fit = fit-join (g .n) small a b (A .fit) (B .fit);
+    dead = λ d. join-dead (g .n) a b (A .dead (U .yes .dead d)) (B .dead (U .no .dead d));
+    held = λ σ τ h r. branch-held e t f s u a b σ τ U A B h r;
+  }
+
   left-held : (m : Unroll) (e : Event) (b : Statements) (s x : State) (σ τ : Store) → ((k : ℕ) (σ τ : Store) → Holds (g .n) s σ → Turned e b k σ τ → False e τ → Holds (g .n) x τ) →
       Holds (g .n) s σ → Run (While m e b) σ τ → Holds (g .n) x τ
   left-held m e b s x σ τ covers h (left {k = k} r o) = covers k σ τ h r o
@@ -115,11 +123,7 @@ module _ (g : Setting) (small : g .n ≤ 64) where
         sure-then (event-ok g small e (at + 1) s (lt .0) f) (λ u U.
         sure-then (list-ok t (code.then-at at e + 1) (u .yes) (lt .1) (U .yes .fit)) (λ a A.
         sure-then (list-ok o (code.else-at at e t + 1) (u .no) (lt .2) (U .no .fit)) (λ b B.
-        given (record {
-          fit = fit-join (g .n) small a b (A .fit) (B .fit);
-          dead = λ d. join-dead (g .n) a b (A .dead (U .yes .dead d)) (B .dead (U .no .dead d));
-          held = λ σ τ h r. branch-held e t o s u a b σ τ U A B h r;
-        }))))
+        given (branch-ok e t o s u a b U A B))))
     statement-ok (While m e b) at s lt f =
         sure-then (looping-ok (g .n) small e b (λ h. rules.event g (at + 3) e h) (λ h. rules.list g (code.body-at at e + 1) b h)
         (λ s f. event-ok g small e (at + 3) s (lt .0) f) (λ s f. list-ok b (code.body-at at e + 1) s (lt .1) f) (rules.turns g m) s f) (λ l L.

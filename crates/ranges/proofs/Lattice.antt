@@ -170,19 +170,19 @@ join-filled (Span s e) (Span t f) h = refl
 
 -- ---- widening is above both, and gives up a bound
 
-widen-ends-old : (e f : End) → ranges.within-ends e (ranges.widen-ends e f) ≡ true
-widen-ends-old e f = go (ranges.within-ends f e)
-  where
-    go : (b : Bool) → ranges.within-ends e (cond b e Open) ≡ true
-    go true = within-ends-self e
-    go false = refl
-
 widen-ends-new : (e f : End) → ranges.within-ends f (ranges.widen-ends e f) ≡ true
 widen-ends-new e f = go (ranges.within-ends f e) refl
   where
     go : (b : Bool) → ranges.within-ends f e ≡ b → ranges.within-ends f (cond b e Open) ≡ true
     go true q = q
     go false q = refl
+
+widen-ends-old : (e f : End) → ranges.within-ends e (ranges.widen-ends e f) ≡ true
+widen-ends-old e f = go (ranges.within-ends f e)
+  where
+    go : (b : Bool) → ranges.within-ends e (cond b e Open) ≡ true
+    go true = within-ends-self e
+    go false = refl
 
 -- a start that is kept or becomes 0
 pub kept-le : (b : Bool) (s t : ℕ) → (b ≡ true → s ≤ t) → cond b s 0 ≤ t

@@ -13,13 +13,14 @@ use Rattle.text.specs.Says.{Says}
 use Rattle.text.specs.Line as lines
 use Rattle.text.proofs.Agree.{only}
 
-reading-once : (r q : Reading) → of-reading r ≡ of-reading q → r ≡ q
+-- an answer of the code is known by its answer in document 01's terms
+pub reading-once : (r q : Reading) → of-reading r ≡ of-reading q → r ≡ q
 reading-once (Read n) (Read m) e = cc
 reading-once (Read n) (Refused x p) e = let z : _≡_ {A = ℕ} 0 1 = cc in absurd (omega arith)
 reading-once (Refused x p) (Read n) e = let z : _≡_ {A = ℕ} 0 1 = cc in absurd (omega arith)
 reading-once (Refused x p) (Refused y q) e = cc
 
-printed-once : (r q : Printed) → of-printed r ≡ of-printed q → r ≡ q
+pub printed-once : (r q : Printed) → of-printed r ≡ of-printed q → r ≡ q
 printed-once (Wrote n) (Wrote m) e = cc
 printed-once (Wrote n) Short e = let z : _≡_ {A = ℕ} 0 1 = cc in absurd (omega arith)
 printed-once Short (Wrote n) e = let z : _≡_ {A = ℕ} 0 1 = cc in absurd (omega arith)

@@ -1,0 +1,2 @@
+pub mod Certainties
+pub mod Texts
