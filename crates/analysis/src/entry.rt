@@ -31,7 +31,7 @@ fn admitted(words: &[u64], n: usize, start: Start, unroll: usize) -> Answer
 }
 
 pub fn walked(words: &[u64], n: usize, start: Start, unroll: usize, marks: &mut [u8]) -> Answer
-    requires { ⌜ 8192 ≤ length (now marks) ⌝ }
+    requires { ⌜ (length (now words) ≤ 8192 → length (now words) ≤ length (now marks)) ⌝ }
     ensures { λ r. ⌜ Analysed (now (words .entry)) n (start .cells) unroll r (now (marks .entry)) (now (marks .exit)) ⌝ }
 {
     let a = admitted(words, n, start, unroll);
@@ -74,7 +74,7 @@ pub fn walked_loop(
     unroll: usize,
     marks: &mut [u8],
 ) -> LoopAnswer
-    requires { ⌜ 8192 ≤ length (now marks) ⌝ }
+    requires { ⌜ (length (now words) ≤ 8192 → length (now words) ≤ length (now marks)) ⌝ }
     ensures { λ r. ⌜ r ≡ looped (answers.looped (now (words .entry)) n (start .cells) unroll) ⌝ }
 {
     let a = admitted(words, n, start, unroll);

@@ -71,9 +71,14 @@ pub struct Marked {
 }
 
 // The ranges of a word list's program over n variables, from the caller's ranges, with a default unroll; or the refusal.
+// A short list need not pay for clearing all the marks.
 pub fn analyse(words: &[u64], n: usize, start: Start, unroll: usize) -> Answer
     ensures { λ r. ⌜ r ≡ answered (answers.analysed (now (words .entry)) n (start .cells) unroll) ⌝ }
 {
+    if words.len() <= 256 {
+        let mut few = [0; 256];
+        return entry::walked(words, n, start, unroll, &mut few);
+    }
     let mut marks = [0; 8192];
     entry::walked(words, n, start, unroll, &mut marks)
 }

@@ -1,4 +1,4 @@
--- The two passes over a text, turn by turn, and the outcome that each way of `read` leads to.
+-- A pass over a text, turn by turn, and the outcome that each way of `read` leads to.
 use mathlib.Core.Path.{_≡_, refl, sym, ap, ap₂, _∙_, subst}
 use mathlib.Core.Logic.{_⊎_, inl, inr}
 use mathlib.Core.Bool.{Bool, true, false, cond}
@@ -28,7 +28,7 @@ pub class-rest : (b : ℕ)
 class-rest b w₁ w₂ w₃ w₄ z o c m =
     simp (ne-eqb b 0x20 w₁, ne-eqb b 0x09 w₂, ne-eqb b 0x0A w₃, ne-eqb b 0x0D w₄, ne-eqb b 0x30 z, ne-eqb b 0x5B o, ne-eqb b 0x5D c, ne-eqb b 0x2C m)
 
--- ---- the first pass
+-- ---- what a pass finds
 
 -- what it answers after i bytes and n numbers
 abbrev pub shift : ℕ → ℕ → Found → Found
@@ -47,7 +47,7 @@ shift-push : (i n v : ℕ) (r : Contents) → shift i n (found (push v r)) ≡ s
 shift-push i n v (holds vs) = ap Holds (omega arith)
 shift-push i n v (breaks k) = ap Breaks (omega arith)
 
--- a turn of either pass
+-- a turn of a pass
 abbrev pub move-at : List ℕ → ℕ → Mode → Move
 move-at t i m = step m (class-of (getD t i 0)) (getD t i 0)
 
@@ -83,7 +83,7 @@ pub scan-short : (t : List ℕ) (i n : ℕ) (m : Mode) → i ≤ length t → le
     → shift i n (found (contents (drop i t) m)) ≡ Breaks i
 scan-short t i n m a b e = scan-end t i n m a b ∙ rw e (ap Breaks (omega arith))
 
--- ---- the second pass
+-- ---- what it lays into the words
 
 -- after n numbers: the words with the rest behind the first n, and that there is room
 abbrev pub lay : ℕ → Contents → List ℕ → List ℕ
@@ -186,6 +186,52 @@ module _ {t w₀ w : List ℕ} {m : Mode} {n i : ℕ} (f : Filling t w₀ w m n 
       let p : i ≡ length t = omega (arith, f .place) in
       let e : contents (drop i t) m ≡ at-end m = ap (λ (k : ℕ). contents (drop k t) m) p ∙ ap (λ (l : List ℕ). contents l m) (drop-length t) in
       sym (f .lays ∙ ap (λ (r : Contents). lay n r w) e ∙ end-lay n m w (subst (λ (r : Contents). Room n r (length w)) e (f .room)))
+
+-- ---- a pass
+
+-- what holds of the words w and of where a pass is, w₀ being the words at the start
+pub record Passing (t w₀ w : List ℕ) (m : Mode) (n i : ℕ) : Type 0 where
+  pub place : i ≤ length t
+  pub count : n ≤ i
+  pub same : length w ≡ length w₀
+  pub finds : found (contents t Start) ≡ shift i n (found (contents (drop i t) m))
+  pub fills : FitsIn (contents t Start) (length w₀) → Filling t w₀ w m n i
+
+-- what a pass that ends has answered, and left in the words
+pub record Passed (t w₀ : List ℕ) (r : Found) (w : List ℕ) : Type 0 where
+  pub answer : r ≡ found (contents t Start)
+  pub words : FitsIn (contents t Start) (length w₀) → w ≡ put (contents t Start) w₀
+
+pub pass-start : (t w : List ℕ) → Passing t w w Start 0 0
+pass-start t w = record { place = omega arith; count = omega arith; same = refl; finds = shift-start (found (contents t Start)); fills = λ h. fill-start t w h }
+
+module _ {t w₀ w : List ℕ} {m : Mode} {n i : ℕ} (p : Passing t w₀ w m n i) where
+  pub pass-to : {q : Mode} → i < length t → To q ≡ move-at t i m → Passing t w₀ w q n (i + 1)
+  pass-to {q} h e = record {
+    place = omega arith;
+    count = omega (arith, p .count);
+    same = p .same;
+    finds = p .finds ∙ scan-to t i n m q h e;
+    fills = λ f. fill-to (p .fills f) h e;
+  }
+
+  pub pass-push : {v : ℕ} {q : Mode} → i < length t → Push v q ≡ move-at t i m → Passing t w₀ (set w n v) q (n + 1) (i + 1)
+  pass-push {v} {q} h e = record {
+    place = omega arith;
+    count = omega (arith, p .count);
+    same = length-set w n v ∙ p .same;
+    finds = p .finds ∙ scan-push t i n v m q h e;
+    fills = λ f. fill-push (p .fills f) h e;
+  }
+
+  pub pass-stop : i < length t → Stop ≡ move-at t i m → Passed t w₀ (Breaks i) w
+  pass-stop h e = record { answer = sym (p .finds ∙ scan-stop t i n m h e); words = λ f. absurd (fill-stop (p .fills f) h e) }
+
+  pub pass-whole : length t ≤ i → whole m ≡ true → Passed t w₀ (Holds n) w
+  pass-whole h e = record { answer = sym (p .finds ∙ scan-whole t i n m (p .place) h e); words = λ f. fill-end (p .fills f) h }
+
+  pub pass-short : length t ≤ i → whole m ≡ false → Passed t w₀ (Breaks i) w
+  pass-short h e = record { answer = sym (p .finds ∙ scan-short t i n m (p .place) h e); words = λ f. fill-end (p .fills f) h }
 
 -- ---- what each way of `read` leads to
 

@@ -6,7 +6,7 @@ use crate::Move;
 use crate::Reading;
 ghost use mathlib.Core.Path.{_≡_};
 ghost use Prim.Native.Nat.{_-_};
-ghost use lib.ListN.{length};
+ghost use lib.ListN.{length, set};
 ghost use Rattle.text.specs.Answers as answers;
 ghost use Rattle.text.specs.Machine as machine;
 ghost use Rattle.text.specs.Says.{Says};
@@ -190,9 +190,19 @@ fn whole(m: Mode) -> bool
     }
 }
 
-// The first pass: whether the text is one, and how many numbers it holds.
-fn scan(text: &[u8]) -> Found
+// Puts a word where the words have such a place.
+fn store(words: &mut [u64], at: usize, word: u64)
+    ensures { λ _. ⌜ now (words .exit) ≡ set (now (words .entry)) at word ⌝ }
+{
+    if at < words.len() {
+        words[at] = word;
+    }
+}
+
+// A pass over the text: whether it is one, and how many numbers it holds. They go into the words as far as those reach.
+fn pass(text: &[u8], words: &mut [u64]) -> Found
     ensures { λ r. ⌜ r ≡ machine.found (machine.contents (now (text .entry)) Mode.Start) ⌝ }
+    ensures { λ _. ⌜ (machine.FitsIn (machine.contents (now (text .entry)) Mode.Start) (length (now (words .entry))) → now (words .exit) ≡ machine.put (machine.contents (now (text .entry)) Mode.Start) (now (words .entry))) ⌝ }
 {
     let mut m = Mode::Start;
     let mut n: usize = 0;
@@ -205,7 +215,8 @@ fn scan(text: &[u8]) -> Found
             Move::To(q) => {
                 m = q;
             }
-            Move::Push(_, q) => {
+            Move::Push(v, q) => {
+                store(words, n, v);
                 m = q;
                 n += 1;
             }
@@ -218,33 +229,7 @@ fn scan(text: &[u8]) -> Found
     Found::Breaks(i)
 }
 
-// The second pass: the numbers of a text that was found to be one, into words that have room for them.
-fn fill(text: &[u8], words: &mut [u64])
-    requires { ⌜ machine.FitsIn (machine.contents (now text) Mode.Start) (length (now words)) ⌝ }
-    ensures { λ _. ⌜ now (words .exit) ≡ machine.put (machine.contents (now (text .entry)) Mode.Start) (now (words .entry)) ⌝ }
-{
-    let mut m = Mode::Start;
-    let mut n: usize = 0;
-    let mut i: usize = 0;
-    while i < text.len() {
-        match step(m, text[i]) {
-            Move::Stop => {
-                return;
-            }
-            Move::To(q) => {
-                m = q;
-            }
-            Move::Push(v, q) => {
-                words[n] = v;
-                m = q;
-                n += 1;
-            }
-        }
-        i += 1;
-    }
-}
-
-// Reads the text into the words: how many, or a refusal, which leaves the words as they were.
+// Reads the text into the words: how many, or a refusal, which leaves the words as they were. So a first pass only finds what the text holds.
 pub fn read(text: &[u8], words: &mut [u64]) -> Reading
     ensures { λ r. ⌜ Says (now (text .entry)) (now (words .entry)) (answers.leaves (answers.of-reading r) (now (words .exit))) ⌝ }
     ensures { λ r. ⌜ answers.leaves (answers.of-reading r) (now (words .exit)) ≡ machine.outcome (now (text .entry)) (now (words .entry)) ⌝ }
@@ -252,7 +237,8 @@ pub fn read(text: &[u8], words: &mut [u64]) -> Reading
     if 65536 < text.len() {
         return Reading::Refused(2, 0);
     }
-    match scan(text) {
+    let mut none = [0; 1];
+    match pass(text, &mut none) {
         Found::Breaks(k) => Reading::Refused(1, k),
         Found::Holds(n) => {
             if 8192 < n {
@@ -261,7 +247,7 @@ pub fn read(text: &[u8], words: &mut [u64]) -> Reading
             if words.len() < n {
                 return Reading::Refused(2, 0);
             }
-            fill(text, words);
+            pass(text, words);
             Reading::Read(n)
         }
     }

@@ -50,7 +50,7 @@ list-requires c κs =
     let a = answered-good (answers.admitted (s .args .words .now) (s .args .n) (s .args .unroll) (s .args .start .cells)) (c .before .before .before .before .before .before .before .admitted .ensures) (c .before .before .before .before .before .enum-told2 .given .1) in
     let p = sound-is (s .args .words .now) (s .args .n) (sym (c .before .before .before .before .check .ensures) ∙ c .before .before .enum-told3 .given .1) in
     let m = admitted-small (s .args .words .now) (s .args .n) (s .args .unroll) (s .args .start .cells) a in
-    (program-words p, (m .1, (m .2, omega (arith, m .0, s .pre))))
+    (program-words p, (m .1, (m .2, omega (arith, s .pre (m .0)))))
 
 same-length : tie.Need-same-length
 same-length c = search needs

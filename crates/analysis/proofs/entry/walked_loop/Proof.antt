@@ -92,7 +92,7 @@ looped-requires c κs =
     let m = admitted-small (s .args .words .now) (s .args .n) (s .args .unroll) (s .args .start .cells) a in
     let o = one-loop p g in
     let size : length (take (length (s .args .words .now) - 1) (drop 1 (s .args .words .now))) ≤ length (s .args .words .now) - 1 = part-size (s .args .words .now) in
-    (o .loop, (m .1, (m .2, omega (arith, m .0, g .long, s .pre))))
+    (o .loop, (m .1, (m .2, omega (arith, g .long, s .pre (m .0)))))
 
 same-length : tie.Need-same-length
 same-length c = search needs
