@@ -5,7 +5,7 @@ use mathlib.Core.List.{List, _++_}
 use Prim.Native.Nat.{ℕ, _≤_, _<_}
 use native.Mathlib.Omega.{arith}
 use lib.Dec.{ltb}
-use lib.ListN.{length, take, drop, length-append, replicate}
+use lib.ListN.{length, take, drop, length-append, replicate, length-replicate}
 use lib.Seq.{take-append-seam}
 use borrow.Author.Tests.{lt-ltb, le-ltb, ltb-true, ltb-false}
 use Rattle.states.specs.declared.State.{State}
@@ -32,45 +32,44 @@ use Rattle.woolquern.specs.Job.{words-in, words-of, line-of, written}
 
 -- ---- the words of a text
 
--- what a reading into words leaves, as the words read
-abbrev heard : Answer ℕ → List ℕ → Answer (List ℕ)
-heard (Gives count) buffer = Gives (take count buffer)
-heard (Refuses number place) buffer = Refuses number place
+-- what a reading into so many words tells of the text: the words read, or, where there is room for all, the refusal
+abbrev Heard : ℕ → Answer ℕ → List ℕ → Answer (List ℕ) → Type 0
+Heard room (Gives count) buffer a = (Gives (take count buffer) ≡ a) × (count ≤ length buffer)
+Heard room (Refuses number place) buffer a = 8192 ≤ room → Refuses number place ≡ a
 
--- the words read fit
-abbrev Room : Answer ℕ → List ℕ → Type 0
-Room (Gives count) buffer = count ≤ length buffer
-Room (Refuses number place) buffer = Unit {0}
-
-hears : (text words : List ℕ) → length words ≡ 8192 → (heard (outcome text words .answer) (outcome text words .buffer) ≡ words-of text) × Room (outcome text words .answer) (outcome text words .buffer)
-hears text words long = go (ltb 65536 (length text)) (contents text Start)
+hears : (text words : List ℕ) → Heard (length words) (outcome text words .answer) (outcome text words .buffer) (words-of text)
+hears text words = go (ltb 65536 (length text)) (contents text Start)
   where
     fits : (ws : List ℕ) (b c : Bool) → ltb 8192 (length ws) ≡ b → ltb (length words) (length ws) ≡ c →
-        (heard (cond b (texts.refused 2 0 words) (cond c (texts.refused 2 0 words) (texts.done ws words)) .answer) (cond b (texts.refused 2 0 words) (cond c (texts.refused 2 0 words) (texts.done ws words)) .buffer) ≡ cond b (Refuses 2 0) (Gives ws))
-        × Room (cond b (texts.refused 2 0 words) (cond c (texts.refused 2 0 words) (texts.done ws words)) .answer) (cond b (texts.refused 2 0 words) (cond c (texts.refused 2 0 words) (texts.done ws words)) .buffer)
-    fits ws true c p q = (refl, tt)
-    fits ws false true p q = absurd (omega (arith, ltb-false 8192 (length ws) p, ltb-true (length words) (length ws) q))
+        Heard (length words) (cond b (texts.refused 2 0 words) (cond c (texts.refused 2 0 words) (texts.done ws words)) .answer) (cond b (texts.refused 2 0 words) (cond c (texts.refused 2 0 words) (texts.done ws words)) .buffer) (cond b (Refuses 2 0) (Gives ws))
+    fits ws true c p q = λ _. refl
+    fits ws false true p q = λ h. absurd (omega (arith, ltb-false 8192 (length ws) p, ltb-true (length words) (length ws) q))
     fits ws false false p q = (ap Gives (take-append-seam ws (drop (length ws) words)), omega (arith, length-append ws (drop (length ws) words)))
 
-    go : (b : Bool) (x : Contents) →
-        (heard (cond b (texts.refused 2 0 words) (settle words x) .answer) (cond b (texts.refused 2 0 words) (settle words x) .buffer) ≡ cond b (Refuses 2 0) (words-in x)) × Room (cond b (texts.refused 2 0 words) (settle words x) .answer) (cond b (texts.refused 2 0 words) (settle words x) .buffer)
-    go true x = (refl, tt)
-    go false (breaks place) = (refl, tt)
+    go : (b : Bool) (x : Contents) → Heard (length words) (cond b (texts.refused 2 0 words) (settle words x) .answer) (cond b (texts.refused 2 0 words) (settle words x) .buffer) (cond b (Refuses 2 0) (words-in x))
+    go true x = λ _. refl
+    go false (breaks place) = λ _. refl
     go false (holds ws) = fits ws (ltb 8192 (length ws)) (ltb (length words) (length ws)) refl refl
 
--- what `read` answers, and leaves in words that have room for all
-module _ (text : List ℕ) (r : Text-reading) (after : List ℕ) (e : leaves (of-reading r) after ≡ outcome text (replicate 8192 0)) where
-  left : (heard (of-reading r) after ≡ words-of text) × Room (of-reading r) after
-  left = subst (λ (o : texts.Outcome). (heard (o .answer) (o .buffer) ≡ words-of text) × Room (o .answer) (o .buffer)) (sym e) (hears text (replicate 8192 0) refl)
+-- words for every text that is read
+pub full : 8192 ≤ length (replicate {A = ℕ} 8192 0)
+full = omega (arith, length-replicate {A = ℕ} 8192 0)
 
-  pub read-refused : {number place : ℕ} → r ≡ reading.Refused number place → Refuses number place ≡ words-of text
-  read-refused is = subst (λ (q : Text-reading). heard (of-reading q) after ≡ words-of text) is (left .0)
+-- what `read` answers, and leaves in the words
+module _ (text words : List ℕ) (r : Text-reading) (after : List ℕ) (e : leaves (of-reading r) after ≡ outcome text words) where
+  left : {q : Text-reading} → r ≡ q → Heard (length words) (of-reading q) after (words-of text)
+  left is =
+      subst (λ (q : Text-reading). Heard (length words) (of-reading q) after (words-of text)) is
+      (subst (λ (o : texts.Outcome). Heard (length words) (o .answer) (o .buffer) (words-of text)) (sym e) (hears text words))
+
+  pub read-refused : {number place : ℕ} → r ≡ reading.Refused number place → 8192 ≤ length words → Refuses number place ≡ words-of text
+  read-refused is = left is
 
   pub read-words : {count : ℕ} → r ≡ reading.Read count → Gives (take count after) ≡ words-of text
-  read-words is = subst (λ (q : Text-reading). heard (of-reading q) after ≡ words-of text) is (left .0)
+  read-words is = left is .0
 
   pub read-room : {count : ℕ} → r ≡ reading.Read count → count ≤ length after
-  read-room is = subst (λ (q : Text-reading). Room (of-reading q) after) is (left .1)
+  read-room is = left is .1
 
 -- ---- their answer
 

@@ -25,8 +25,8 @@ same-length c = c .before .before .before .before .before .loop .inv .same
 returns : tie.Need-returns Inv-loop μ-loop
 returns c =
     let l = c .before .before .before .before .before .loop in
-        let p = pass-stop (l .inv) (search needs) (sym (c .enum-told .given .1) ∙ c .before .before .step .ensures) in
-        (p .answer, p .words)
+    let p = pass-stop (l .inv) (search needs) (sym (c .enum-told .given .1) ∙ c .before .before .step .ensures) in
+    (p .answer, p .words)
 
 loop-again : tie.Need-loop-again Inv-loop μ-loop
 loop-again c =
@@ -44,8 +44,8 @@ same-length-2 c = c .before .before .before .loop .inv .same
 returns-2 : tie.Need-returns-2 Inv-loop μ-loop
 returns-2 c =
     let l = c .before .before .before .loop in
-        let p = pass-whole (l .inv) (search needs) (sym (c .before .whole .ensures) ∙ c .if1 .taken) in
-        (p .answer, p .words)
+    let p = pass-whole (l .inv) (search needs) (sym (c .before .whole .ensures) ∙ c .if1 .taken) in
+    (p .answer, p .words)
 
 same-length-3 : tie.Need-same-length-3 Inv-loop μ-loop
 same-length-3 c = c .before .before .before .loop .inv .same
@@ -53,8 +53,8 @@ same-length-3 c = c .before .before .before .loop .inv .same
 returns-3 : tie.Need-returns-3 Inv-loop μ-loop
 returns-3 c =
     let l = c .before .before .before .loop in
-        let p = pass-short (l .inv) (search needs) (sym (c .before .whole .ensures) ∙ c .if1 .left) in
-        (p .answer, p .words)
+    let p = pass-short (l .inv) (search needs) (sym (c .before .whole .ensures) ∙ c .if1 .left) in
+    (p .answer, p .words)
 
 pub pass-spec : {M : Type 1} → statement M
 pass-spec =
