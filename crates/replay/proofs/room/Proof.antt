@@ -1,0 +1,11 @@
+-- The length by the law of `replicate`: computing it would go over every byte.
+use mathlib.Core.Path.{sym}
+use lib.ListN.{length-replicate}
+use Rattle.replay.proofs.room.Statement.{statement}
+use Rattle.replay.proofs.room.Tie as tie
+
+returns : tie.Need-returns
+returns c = sym (length-replicate {0} 2097152 0)
+
+pub room-spec : {M : Type 1} → statement M
+room-spec = tie.close (tie.spec returns)
