@@ -1,18 +1,22 @@
 -- What each way of the printer puts is what the definition of the line says, and fits the room that was asked for it.
 use mathlib.Core.Path.{_≡_, refl, sym, ap, ap₂, _∙_, subst}
+use mathlib.Core.Bool.{Bool, true, false, cond}
 use mathlib.Core.List.{List, [], _∷_, _++_, map, map-append, append-assoc, append-nil}
 use Prim.Native.Nat.{ℕ, zero, suc, _+_, _*_, _^_, _≤_, _<_}
 use native.Mathlib.Omega.{arith}
 use native.Mathlib.Numerals.{add-one}
-use lib.ListN.{length, getD, take, length-map}
+use lib.Dec.{ltb}
+use lib.ListN.{length, getD, take, drop, length-map, length-append}
 use lib.Seq.{take-suc, take-all, length-take-le}
 use borrow.Author.Tests.{lt-ltb, le-ltb, eq-eqb, ne-eqb}
 use Rattle.ranges.specs.declared.End.{End}
 use Rattle.ranges.specs.declared.End.the-variants.{At, Open}
 use Rattle.ranges.specs.declared.Range.the-variants.{Empty, Span}
 use Rattle.states.specs.declared.Cell.{Cell}
-use Rattle.states.specs.Answers.{Gives}
-use Rattle.text.specs.Answers.{leaves, refused}
+use Rattle.states.specs.Answers.{Answer, Gives, Refuses}
+use Rattle.text.specs.declared.Printed.{Printed}
+use Rattle.text.specs.declared.Printed.the-variants.{Wrote}
+use Rattle.text.specs.Answers.{Outcome, leaves, refused, done, of-printed}
 use Rattle.text.specs.Draft.{Put, item}
 use Rattle.text.specs.Line.{ascii, digits, to-end, range, further, joined, cell, ranges, refusal, printed}
 use Rattle.text.proofs.Drafts.{put-none, and-then, put-length, put-front, put-taken}
@@ -117,3 +121,15 @@ module _ {d f : List ℕ} {n : ℕ} (bytes : List ℕ) (room : n ≤ length d) (
       let e : n ≡ length bytes = omega (arith, x .place) in
       let z : Put out 0 bytes r after = subst (λ (s : List ℕ). Put out 0 s r after) (put-taken bytes room x) y in
       rw (le-ltb (length out) (length bytes) (omega arith)) (ap₂ (λ (k : ℕ) (l : List ℕ). leaves (Gives k) l) e (put-front bytes (omega arith) z))
+
+-- what was written stands in the buffer
+pub printed-fits : (bytes out : List ℕ) (r : Printed) (after : List ℕ) {count : ℕ} → leaves (of-printed r) after ≡ printed bytes out → r ≡ Wrote count → count ≤ length after
+printed-fits bytes out r after {count} e is = go (ltb (length out) (length bytes)) (subst (λ (q : Printed). leaves (of-printed q) after ≡ printed bytes out) is e)
+  where
+    go : (b : Bool) → leaves (Gives count) after ≡ cond b (refused 2 0 out) (done bytes out) → count ≤ length after
+    go true q = let a : _≡_ {A = Answer ℕ} (Gives count) (Refuses 2 0) = ap (λ (o : Outcome). o .answer) q in let z : _≡_ {A = ℕ} 0 1 = cc in absurd (omega arith)
+    go false q =
+        let a : _≡_ {A = Answer ℕ} (Gives count) (Gives (length bytes)) = ap (λ (o : Outcome). o .answer) q in
+        let k : count ≡ length bytes = cc in
+        let l : length after ≡ length (bytes ++ drop (length bytes) out) = ap (λ (o : Outcome). length (o .buffer)) q in
+        omega (arith, k, l, length-append bytes (drop (length bytes) out))

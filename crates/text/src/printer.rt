@@ -6,9 +6,10 @@ use states::Answer;
 use states::State;
 use states::Verdict;
 ghost use mathlib.Core.Path.{_≡_};
-ghost use Prim.Native.Nat.{_+_, _≤_};
+ghost use Prim.Native.Nat.{_+_, _≤_, _<_};
 ghost use lib.ListN.{length};
 ghost use Rattle.text.specs.Answers as answers;
+ghost use Rattle.text.specs.declared.Printed.the-variants.{Short};
 ghost use Rattle.text.specs.Draft.{Put, item};
 ghost use Rattle.text.specs.Line as lines;
 
@@ -147,9 +148,10 @@ fn put_answer(draft: &mut [u8], answer: Answer, n: usize) -> usize
     }
 }
 
-// Prints the answer for n variables as one line: how many bytes, or that the buffer is shorter, and then it is left as it was.
+// Prints the answer for n variables as one line: how many bytes, or that the buffer is shorter, and then it is left as it was. 2,048 bytes are always enough.
 pub fn line(answer: Answer, n: usize, out: &mut [u8]) -> Printed
     ensures { λ r. ⌜ answers.leaves (answers.of-printed r) (now (out .exit)) ≡ lines.printed (lines.line n (answers.of-answer answer)) (now (out .entry)) ⌝ }
+    ensures { λ r. ⌜ (r ≡ Short → length (now (out .entry)) < 2048) ⌝ }
 {
     let mut draft = [0u8; 2048];
     let end = put_answer(&mut draft, answer, n);

@@ -1,0 +1,28 @@
+// The job for callers in C and Rust: a slice is a pointer and a length, and an answer is a number.
+use text::Printed;
+ghost use mathlib.Core.Path.{_≡_};
+ghost use Prim.Native.Nat.{_<_};
+ghost use lib.ListN.{length};
+ghost use Rattle.text.specs.Answers.{of-printed};
+ghost use Rattle.woolquern.specs.Job as job;
+
+// How many bytes were written; 0 where the buffer was too short, since no line has none.
+fn written(printed: Printed) -> usize
+    ensures { λ r. ⌜ r ≡ job.written (of-printed printed) ⌝ }
+{
+    match printed {
+        Printed::Wrote(count) => count,
+        Printed::Short => 0,
+    }
+}
+
+// Prints the line for a text into out; 2,048 bytes are always enough.
+#[no_mangle]
+pub extern "C" fn woolquern_run(text: &[u8], out: &mut [u8]) -> usize
+    ensures { λ r. ⌜ r ≡ job.written (job.run (now (text .entry)) (now (out .entry)) .answer) ⌝ }
+    ensures { λ _. ⌜ now (out .exit) ≡ job.run (now (text .entry)) (now (out .entry)) .buffer ⌝ }
+    ensures { λ r. ⌜ (r ≡ 0 → length (now (out .entry)) < 2048) ⌝ }
+{
+    let printed = crate::run(text, out);
+    written(printed)
+}
