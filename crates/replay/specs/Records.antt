@@ -5,7 +5,7 @@ use mathlib.Core.List.{List}
 use Prim.Native.Nat.{ℕ, _+_, _-_, _≤_, _<_}
 use lib.Dec.{ltb}
 use lib.ListN.{length, take, drop, getD}
-use Rattle.woolquern.specs.Job.{shown}
+use Rattle.woolquern.specs.Job.{line-of, answer}
 
 -- The line that begins at `from` ends at `end`: at its line feed, or with the list.
 pub record Line (list : List ℕ) (from end : ℕ) : Type 0 where
@@ -22,9 +22,9 @@ next list end = cond (ltb end (length list)) (end + 1) end
 abbrev pub part : List ℕ → ℕ → ℕ → List ℕ
 part list from to = take (to - from) (drop from list)
 
--- `line` is what Woolquern prints for `text`, with 4,096 bytes lent for it.
+-- `line` is the line of the answer to `text`.
 abbrev pub Prints : List ℕ → List ℕ → Type 0
-Prints text line = shown text 4096 ≡ line
+Prints text line = line-of (answer text) ≡ line
 
 -- A record at `at`: a line that is the text, and one that is to be printed, with its line feed.
 pub record Record (list : List ℕ) (at : ℕ) (text line : List ℕ) (then : ℕ) : Type 0 where

@@ -1,5 +1,6 @@
 // Replays the recorded list: two lines for each program, its text and the line that is to be printed.
 // Prints each program whose line is another, and how many agree and how many differ.
+use text::Printed;
 ghost use mathlib.Core.Path.{_≡_};
 ghost use mathlib.Core.Bool.{true};
 ghost use Prim.Native.Nat.{_≤_};
@@ -49,10 +50,12 @@ fn tell(text: &[u8], line: &[u8], printed: &[u8]) {
 fn agrees(text: &[u8], line: &[u8]) -> bool
     ensures { λ r. ⌜ (r ≡ true → Prints (now (text .entry)) (now (line .entry))) × (Prints (now (text .entry)) (now (line .entry)) → r ≡ true) ⌝ }
 {
-    // Longer than any line: 64 ranges of at most 29 bytes, with ", " between them.
-    let mut out = [0u8; 4096];
-    let n = woolquern::run(text, &mut out);
-    let printed = &out[..n];
+    let mut out = [0; 2048];
+    let answer = woolquern::run(text, &mut out);
+    let Printed::Wrote(count) = answer else {
+        return false;
+    };
+    let printed = &out[..count];
     let same = check::same(printed, line);
     if !same {
         tell(text, line, printed);
@@ -64,7 +67,10 @@ fn agrees(text: &[u8], line: &[u8]) -> bool
 fn replayed(list: &[u8]) -> Tally
     ensures { λ r. ⌜ Replayed (now (list .entry)) (length (now (list .entry))) (r .agree) (r .differ) ⌝ }
 {
-    let mut tally = Tally { agree: 0, differ: 0 };
+    let mut tally = Tally {
+        agree: 0,
+        differ: 0,
+    };
     let mut at = 0;
     while at < list.len() {
         let text_end = line_end(list, at);

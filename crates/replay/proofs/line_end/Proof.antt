@@ -1,4 +1,4 @@
-use Rattle.replay.proofs.Nexts.{one-further}
+use Rattle.replay.proofs.Lines.{one-further}
 -- `replay::line_end` meets its contract. Assumes nothing.
 use Prim.Native.Nat.{ℕ, _≤_, _<_, _-_}
 use mathlib.Core.Path.{_≡_}

@@ -3,18 +3,13 @@ use mathlib.Core.Path.{_≡_, refl}
 use borrow.Author.Needs.{needs}
 use Rattle.replay.proofs.next.Statement.{statement}
 use Rattle.replay.proofs.next.Tie as tie
-use Rattle.replay.proofs.next.Reads as reads
-use Rattle.replay.proofs.next.Lts as lts
 
--- src/main.rt:35:27
 add-result : tie.Need-add-result
 add-result c = search needs
 
--- src/main.rt:32:1
 returns : tie.Need-returns
 returns c = rw (lt-ltb _ _ (c .if1 .taken))
 
--- src/main.rt:32:1
 returns-2 : tie.Need-returns-2
 returns-2 c = rw (le-ltb _ _ (c .if1 .left))
 

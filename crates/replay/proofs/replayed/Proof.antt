@@ -1,6 +1,6 @@
 use mathlib.Core.Bool.{true≢false}
-use Rattle.replay.proofs.Nexts.{recorded}
-use Rattle.replay.proofs.Nexts.{follows}
+use Rattle.replay.proofs.Lines.{recorded}
+use Rattle.replay.proofs.Lines.{follows}
 use Rattle.replay.specs.Records.{Replayed, Record, begin, agrees, differs}
 use lib.ListN.{length}
 use native.Mathlib.Omega.{arith}
@@ -20,70 +20,54 @@ Inv-loop list tally₀ at₀ tally at = (at ≤ length list) × (tally .agree + 
 abbrev μ-loop : tie.MeasureT-loop
 μ-loop list tally₀ at₀ tally at = length list - at
 
--- src/main.rt:69:5
 loop-holds : tie.Need-loop-holds Inv-loop μ-loop
 loop-holds c = (omega arith, omega arith, begin)
 
--- src/main.rt:70:13
 line-end-requires : tie.Need-line-end-requires Inv-loop μ-loop
 line-end-requires c κs = omega arith
 
--- src/main.rt:71:13
 next-requires : tie.Need-next-requires Inv-loop μ-loop
 next-requires c κs = tt
 
--- src/main.rt:72:13
 line-end-requires-2 : tie.Need-line-end-requires-2 Inv-loop μ-loop
 line-end-requires-2 c κs = let n = follows _ _ _ _ (c .before .line-end .ensures) (c .next .ensures) in omega (arith, n .within)
 
--- src/main.rt:73:13
 next-requires-2 : tie.Need-next-requires-2 Inv-loop μ-loop
 next-requires-2 c κs = tt
 
--- src/main.rt:74:19
 sub-agrees : tie.Need-sub-agrees Inv-loop μ-loop
 sub-agrees c = omega (arith, c .before .before .before .line-end .ensures)
 
--- src/main.rt:74:19
 part-agrees-start : tie.Need-part-agrees-start Inv-loop μ-loop
 part-agrees-start c = omega (arith, c .before .before .before .line-end .ensures)
 
--- src/main.rt:74:19
 part-agrees-end : tie.Need-part-agrees-end Inv-loop μ-loop
 part-agrees-end c = omega (arith, c .before .before .before .line-end .ensures)
 
--- src/main.rt:74:40
 sub-agrees-2 : tie.Need-sub-agrees-2 Inv-loop μ-loop
 sub-agrees-2 c = let n = follows _ _ _ _ (c .before .before .line-end2 .ensures) (c .before .next2 .ensures) in omega (arith, n .not-below)
 
--- src/main.rt:74:40
 part-agrees-start-2 : tie.Need-part-agrees-start-2 Inv-loop μ-loop
 part-agrees-start-2 c = let n = follows _ _ _ _ (c .before .before .line-end2 .ensures) (c .before .next2 .ensures) in omega (arith, n .not-below, n .within)
 
--- src/main.rt:74:40
 part-agrees-end-2 : tie.Need-part-agrees-end-2 Inv-loop μ-loop
 part-agrees-end-2 c = let n = follows _ _ _ _ (c .before .before .line-end2 .ensures) (c .before .next2 .ensures) in omega (arith, n .within)
 
--- src/main.rt:74:12
 agrees-requires : tie.Need-agrees-requires Inv-loop μ-loop
 agrees-requires c κs = tt
 
--- src/main.rt:75:13
 add-tally : tie.Need-add-tally Inv-loop μ-loop
 add-tally c = omega (arith, c .before .before .before .before .before .before .before .before .before .before .loop .inv .0, c .before .before .before .before .before .before .before .before .before .before .loop .inv .1, c .before .before .before .before .before .before .before .before .before .loop-test .taken)
 
--- src/main.rt:77:13
 add-tally-2 : tie.Need-add-tally-2 Inv-loop μ-loop
 add-tally-2 c = omega (arith, c .before .before .before .before .before .before .before .before .before .before .loop .inv .0, c .before .before .before .before .before .before .before .before .before .before .loop .inv .1, c .before .before .before .before .before .before .before .before .before .loop-test .taken)
 
--- src/main.rt:69:5
 loop-less : tie.Need-loop-less Inv-loop μ-loop
 loop-less c =
     let m = follows _ _ _ _ (c .before .before .before .before .before .before .before .before .line-end .ensures) (c .before .before .before .before .before .before .before .next .ensures) in
     let n = follows _ _ _ _ (c .before .before .before .before .before .before .line-end2 .ensures) (c .before .before .before .before .before .next2 .ensures) in
     omega (arith, m .above (c .before .before .before .before .before .before .before .before .before .loop-test .taken), n .not-below, n .within)
 
--- src/main.rt:69:5
 loop-again : tie.Need-loop-again Inv-loop μ-loop
 loop-again c =
     let there = c .before .before .before .before .before .before .before .before .before .loop-test .taken in
@@ -92,14 +76,12 @@ loop-again c =
     let here = recorded _ _ _ _ _ _ there (c .before .before .before .before .before .before .before .before .line-end .ensures) (c .before .before .before .before .before .before .before .next .ensures) (c .before .before .before .before .before .before .line-end2 .ensures) (c .before .before .before .before .before .next2 .ensures) in
     (n .within, omega (arith, m .above there, n .not-below, c .before .before .before .before .before .before .before .before .before .before .loop .inv .1), agrees (c .before .before .before .before .before .before .before .before .before .before .loop .inv .2) here (c .before .before .agrees .ensures .0 (c .before .if1 .taken)))
 
--- src/main.rt:69:5
 loop-less-2 : tie.Need-loop-less-2 Inv-loop μ-loop
 loop-less-2 c =
     let m = follows _ _ _ _ (c .before .before .before .before .before .before .before .before .line-end .ensures) (c .before .before .before .before .before .before .before .next .ensures) in
     let n = follows _ _ _ _ (c .before .before .before .before .before .before .line-end2 .ensures) (c .before .before .before .before .before .next2 .ensures) in
     omega (arith, m .above (c .before .before .before .before .before .before .before .before .before .loop-test .taken), n .not-below, n .within)
 
--- src/main.rt:69:5
 loop-again-2 : tie.Need-loop-again-2 Inv-loop μ-loop
 loop-again-2 c =
     let there = c .before .before .before .before .before .before .before .before .before .loop-test .taken in
@@ -108,7 +90,6 @@ loop-again-2 c =
     let here = recorded _ _ _ _ _ _ there (c .before .before .before .before .before .before .before .before .line-end .ensures) (c .before .before .before .before .before .before .before .next .ensures) (c .before .before .before .before .before .before .line-end2 .ensures) (c .before .before .before .before .before .next2 .ensures) in
     (n .within, omega (arith, m .above there, n .not-below, c .before .before .before .before .before .before .before .before .before .before .loop .inv .1), differs (c .before .before .before .before .before .before .before .before .before .before .loop .inv .2) here (λ prints. true≢false (sym (c .before .before .agrees .ensures .1 prints) ∙ c .before .if1 .left)))
 
--- src/main.rt:64:1
 returns : tie.Need-returns Inv-loop μ-loop
 returns c =
     let end : c .before .loop .at ≡ length (c .before .before .before .args .list .now) = omega (arith, c .before .loop .inv .0, c .loop-test .left) in
