@@ -30,8 +30,12 @@ read text words r q x y a b =
     let e : leaves (of-reading r) x ≡ leaves (of-reading q) y = only text words _ a ∙ sym (only text words _ b) in
     (reading-once r q (ap (λ (o : Outcome). o .answer) e), ap (λ (o : Outcome). o .buffer) e)
 
-pub line : (answer : code.Answer) (n : ℕ) (out : List ℕ) (r q : Printed) (x y : List ℕ) →
-    leaves (of-printed r) x ≡ lines.printed (lines.line n (of-answer answer)) out → leaves (of-printed q) y ≡ lines.printed (lines.line n (of-answer answer)) out → (r ≡ q) × (x ≡ y)
-line answer n out r q x y a b =
+-- what a printing leaves determines its answer and the buffer
+pub printing : (o : Outcome) (r q : Printed) (x y : List ℕ) → leaves (of-printed r) x ≡ o → leaves (of-printed q) y ≡ o → (r ≡ q) × (x ≡ y)
+printing o r q x y a b =
     let e : leaves (of-printed r) x ≡ leaves (of-printed q) y = a ∙ sym b in
     (printed-once r q (ap (λ (o : Outcome). o .answer) e), ap (λ (o : Outcome). o .buffer) e)
+
+pub line : (answer : code.Answer) (n : ℕ) (out : List ℕ) (r q : Printed) (x y : List ℕ) →
+    leaves (of-printed r) x ≡ lines.printed (lines.line n (of-answer answer)) out → leaves (of-printed q) y ≡ lines.printed (lines.line n (of-answer answer)) out → (r ≡ q) × (x ≡ y)
+line answer n out r q x y a b = printing (lines.printed (lines.line n (of-answer answer)) out) r q x y a b

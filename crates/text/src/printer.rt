@@ -148,6 +148,15 @@ fn put_answer(draft: &mut [u8], answer: Answer, n: usize) -> usize
     }
 }
 
+// How many bytes the line of an answer for n variables has.
+pub fn line_length(answer: Answer, n: usize) -> usize
+    ensures { λ r. ⌜ r ≡ length (lines.line n (answers.of-answer answer)) ⌝ }
+{
+    let mut draft = [0u8; 2048];
+    let end = put_answer(&mut draft, answer, n);
+    end + 1
+}
+
 // Prints the answer for n variables as one line: how many bytes, or that the buffer is shorter, and then it is left as it was. 2,048 bytes are always enough.
 pub fn line(answer: Answer, n: usize, out: &mut [u8]) -> Printed
     ensures { λ r. ⌜ answers.leaves (answers.of-printed r) (now (out .exit)) ≡ lines.printed (lines.line n (answers.of-answer answer)) (now (out .entry)) ⌝ }

@@ -94,17 +94,20 @@ ran-bad ws {number} {place} h e = ran-short ws h ∙ go (reader.program ws 64) e
     go (Read p i) q = let z : _≡_ {A = ℕ} 0 1 = cc in absurd (omega arith)
     go (Bad k at) q = cc
 
-pub ran-line : (ws : List ℕ) {n : ℕ} → length ws ≤ 8192 → Sound n ≡ checked (reader.program ws 64) → line n (of-answer (answered (analysed ws n zeros 0))) ≡ line-of (ran ws)
+pub ran-sound : (ws : List ℕ) {n : ℕ} → length ws ≤ 8192 → Sound n ≡ checked (reader.program ws 64) → ran ws ≡ and-then (analysed ws n zeros 0) (λ s. Gives (record { n = n; state = s }))
 unfolding checked
-ran-line ws {n} h e = go (reader.program ws 64) e ∙ ap line-of (sym (ran-short ws h))
+ran-sound ws {n} h e = ran-short ws h ∙ go (reader.program ws 64) e
   where
-    told : (p : Statements) (a : Answer State) → line (used p) (of-answer (answered a)) ≡ line-of (and-then a (λ s. Gives (record { n = used p; state = s })))
-    told p (Gives s) = refl
-    told p (Refuses number place) = refl
-
-    go : (r : Reading Statements) → Sound n ≡ checked r → line n (of-answer (answered (analysed ws n zeros 0))) ≡ line-of (ran-of ws r)
+    go : (r : Reading Statements) → Sound n ≡ checked r → ran-of ws r ≡ and-then (analysed ws n zeros 0) (λ s. Gives (record { n = n; state = s }))
     go (Bad k at) q = let z : _≡_ {A = ℕ} 0 1 = cc in absurd (omega arith)
-    go (Read p i) q = let same : n ≡ used p = cc in rw same (told p (analysed ws (used p) zeros 0))
+    go (Read p i) q = let same : n ≡ used p = cc in rw same refl
+
+pub ran-line : (ws : List ℕ) {n : ℕ} → length ws ≤ 8192 → Sound n ≡ checked (reader.program ws 64) → line n (of-answer (answered (analysed ws n zeros 0))) ≡ line-of (ran ws)
+ran-line ws {n} h e = go (analysed ws n zeros 0) ∙ ap line-of (sym (ran-sound ws h e))
+  where
+    go : (a : Answer State) → line n (of-answer (answered a)) ≡ line-of (and-then a (λ s. Gives (record { n = n; state = s })))
+    go (Gives s) = refl
+    go (Refuses number place) = refl
 
 -- ---- the number of bytes written
 

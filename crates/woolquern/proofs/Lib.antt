@@ -1,1 +1,4 @@
 pub mod Jobs
+pub mod Kept
+pub mod Settled
+pub mod Only

@@ -1,7 +1,13 @@
 // The whole job on bytes: the text of a program in, one line out.
 mod exports;
+mod loops;
+mod marks;
 
+pub use exports::woolquern_loop;
+pub use exports::woolquern_marks;
 pub use exports::woolquern_run;
+pub use loops::run_loop;
+pub use marks::run_marked;
 use ranges::End;
 use ranges::Range;
 use states::Cell;

@@ -1,3 +1,4 @@
+-- `run_words` meets its contract: each way is one way of the words' answer.
 use Rattle.woolquern.proofs.Jobs.{ran-long, ran-bad, ran-line}
 use Rattle.woolquern.specs.Job.{line-of}
 use Rattle.text.specs.Line.{line, printed}
@@ -13,52 +14,12 @@ use mathlib.Core.Path.{ap, sym, _∙_}
 use borrow.Author.Needs.{needs}
 use Rattle.woolquern.proofs.run_words.Statement.{statement}
 use Rattle.woolquern.proofs.run_words.Tie as tie
-use Rattle.woolquern.proofs.run_words.Reads as reads
-use Rattle.woolquern.proofs.run_words.Lts as lts
-use Rattle.analysis.proofs.analyse.Reads as analyse-reads
-use Rattle.text.proofs.line.Reads as line-reads
-use Rattle.woolquern.proofs.refuse.Reads as refuse-reads
-use Rattle.woolquern.proofs.zeros.Reads as zeros-reads
-use Rattle.words.proofs.check.Reads as check-reads
-
-refuse-requires : tie.Need-refuse-requires
-refuse-requires c κs = search needs
-
-same-length : tie.Need-same-length
-same-length c = search needs
 
 returns : tie.Need-returns
 returns c = (c .before .before .refuse .ensures .0 ∙ ap (λ (a : Answer Outcome). printed (line-of a) (c .before .before .before .before .before .before .before .args .out .now)) (sym (ran-long (c .before .before .before .before .before .before .before .args .words .now) (c .before .before .before .before .if1 .taken))), c .before .before .refuse .ensures .1)
 
-check-requires : tie.Need-check-requires
-check-requires c κs = search needs
-
-enum-known-number : tie.Need-enum-known-number
-enum-known-number c = search needs
-
-refuse-requires-2 : tie.Need-refuse-requires-2
-refuse-requires-2 c κs = search needs
-
-enum-known-n : tie.Need-enum-known-n
-enum-known-n c = search needs
-
-zeros-requires : tie.Need-zeros-requires
-zeros-requires c κs = search needs
-
-analyse-requires : tie.Need-analyse-requires
-analyse-requires c κs = search needs
-
-line-requires : tie.Need-line-requires
-line-requires c κs = search needs
-
-same-length-2 : tie.Need-same-length-2
-same-length-2 c = search needs
-
 returns-2 : tie.Need-returns-2
 returns-2 c = (c .before .before .refuse2 .ensures .0 ∙ ap (λ (a : Answer Outcome). printed (line-of a) (c .before .before .before .before .before .before .before .before .before .before .before .args .out .now)) (sym (ran-bad (c .before .before .before .before .before .before .before .before .before .before .before .args .words .now) (c .before .before .before .before .before .before .before .before .if1 .left) (sym (c .before .before .before .before .before .number .given .1) ∙ c .before .before .before .before .before .before .before .check .ensures))), c .before .before .refuse2 .ensures .1)
-
-same-length-3 : tie.Need-same-length-3
-same-length-3 c = search needs
 
 returns-3 : tie.Need-returns-3
 returns-3 c =
@@ -75,17 +36,5 @@ pub run-words-spec : {M : Type 1} → statement M
 run-words-spec =
     tie.close
     (tie.spec
-    refuse-requires
-    same-length
-    returns
-    check-requires
-    enum-known-number
-    refuse-requires-2
-    enum-known-n
-    zeros-requires
-    analyse-requires
-    line-requires
-    same-length-2
-    returns-2
-    same-length-3
-    returns-3)
+    (λ c κs. search needs) (λ c. search needs) returns (λ c κs. search needs) (λ c. search needs) (λ c κs. search needs) (λ c. search needs)
+    (λ c κs. search needs) (λ c κs. search needs) (λ c κs. search needs) (λ c. search needs) returns-2 (λ c. search needs) returns-3)

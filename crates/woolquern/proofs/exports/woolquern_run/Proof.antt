@@ -14,4 +14,6 @@ returns c =
     (c .written .ensures ∙ ap (λ (o : Outcome). written (o .answer)) e, (ap (λ (o : Outcome). o .buffer) e, λ none. c .before .before .before .run .ensures .1 (nothing-short (answer (s .args .text .now)) (s .args .out .now) _ e (sym (c .written .ensures) ∙ none))))
 
 pub woolquern-run-spec : {M : Type 1} → statement M
-woolquern-run-spec = tie.close (tie.spec (λ c κs. search needs) (λ c κs. search needs) (λ c. search needs) returns)
+woolquern-run-spec = tie.close
+    (tie.spec
+    (λ c κs. search needs) (λ c κs. search needs) (λ c. search needs) returns)
