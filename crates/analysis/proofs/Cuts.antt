@@ -1,17 +1,16 @@
 -- The words of an if, a loop and a normalize, cut into their parts where the code cuts them.
-use mathlib.Core.Path.{_≡_, refl, sym, ap, _∙_, subst}
-use mathlib.Core.List.{List, []}
+use mathlib.Core.Path.{_≡_, sym, ap, _∙_, subst}
+use mathlib.Core.List.{List}
 use Prim.Native.Nat.{ℕ, _+_, _-_, _<_, _≤_}
 use native.Mathlib.Omega.{arith}
 use lib.ListN.{length, getD, take, drop}
 use Rattle.paper.specs.Tree.{Unroll, Default, Turns, Event, Statement, IfThenElse, While, Normalize, Statements}
 use Rattle.paper.specs.Code as code
-use Rattle.paper.specs.Limits.{Each}
 use Rattle.words.specs.Parts.{Begins, EventAt, ListAt, EventIs, ListIs, StatementIs}
 use Rattle.words.proofs.Parts.{begins-whole, begins-at, part-is}
 use Rattle.words.proofs.Nodes.{unroll-of, BranchAt, WhileAt, NormalizeAt, branch-here, while-here, normalize-here, event-some}
-use Rattle.words.proofs.Bounds.{branch-bounds, while-bounds, normalize-bounds}
-use Rattle.analysis.specs.Loops.{LoopIs, GivenAre}
+use Rattle.words.proofs.Bounds.{while-bounds}
+use Rattle.analysis.specs.Loops.{LoopIs}
 
 -- an if whose then-list's count stands at p and whose else-list's count stands at q
 pub record BranchCut (ws : List ℕ) (p q : ℕ) (c : Statement) : Type 0 where

@@ -1,8 +1,8 @@
 -- The public functions: admission, the check, and the walk, in the order of refusals.
 use mathlib.Core.Path.{_≡_, refl, sym, ap, _∙_, subst}
 use mathlib.Core.Bool.{Bool, true, false}
-use mathlib.Core.List.{List, [], _∷_, _++_, append-nil}
-use Prim.Native.Nat.{ℕ, zero, suc, _+_, _-_, _<_, _≤_}
+use mathlib.Core.List.{List, [], _++_, append-nil}
+use Prim.Native.Nat.{ℕ, _+_, _-_, _<_, _≤_}
 use native.Mathlib.Omega.{arith}
 use lib.Dec.{ltb, eqb}
 use lib.ListN.{length, getD, take, drop, length-take}
@@ -14,7 +14,7 @@ use Rattle.states.specs.declared.Verdict.the-variants.{Good, Refused}
 use Rattle.states.specs.declared.Answer as code-answer
 use Rattle.states.specs.Answers.{Answer, Gives, Refuses, answered}
 use Rattle.states.specs.Starts as starts
-use Rattle.paper.specs.Tree.{Unroll, Event, Statement, Sample, Assign, Decrement, IfThenElse, While, Fail, Normalize, Statements, done, _then_}
+use Rattle.paper.specs.Tree.{Unroll, Event, Statement, While, Statements, done, _then_}
 use Rattle.paper.specs.Code as code
 use Rattle.paper.specs.Reader as reader
 use Rattle.paper.specs.Reader.{Reading, Read, Bad}
@@ -32,9 +32,8 @@ use Rattle.analysis.specs.Entries.{Analysed, begun}
 use Rattle.analysis.specs.Loops.{LoopIs}
 use Rattle.analysis.specs.Noted as noted
 use Rattle.analysis.specs.Noted.{Says, setting}
-use Rattle.analysis.specs.Outcomes.{looped}
 use Rattle.analysis.specs.Plain as plain
-use Rattle.analysis.proofs.Says.{answered-good, answered-refused}
+use Rattle.analysis.proofs.Says.{answered-good}
 use Rattle.analysis.proofs.Plains.{plain-kind, begins-kind}
 use Rattle.analysis.proofs.Cuts.{loop-is}
 
@@ -157,12 +156,6 @@ module _ (ws : List ℕ) where
   unless-is ok number at true true p q = rw (p, q)
   unless-is ok number at true false p q = rw (p, q)
   unless-is ok number at false b p q = rw p
-
-  abbrev first-word : Reading ℕ
-  first-word = reader.unless ws (λ x. eqb x 1) 3 0
-
-  abbrev second-word : Reading ℕ
-  second-word = reader.unless ws (λ x. eqb x 5) 3 1
 
   pub begins-none : length ws ≡ 0 → Refused 3 0 ≡ begun (answers.begins ws)
   begins-none e = rw (unless-is (λ x. eqb x 1) 3 0 false (eqb (getD ws 0 0) 1) (le-ltb 0 (length ws) (omega arith)) refl, e)

@@ -2,7 +2,7 @@
 use mathlib.Core.Path.{_≡_, refl, sym, ap, _∙_, subst}
 use mathlib.Core.Bool.{Bool, true, false, cond}
 use mathlib.Core.List.{List, [], _∷_}
-use Prim.Native.Nat.{ℕ, zero, suc, _+_, _-_, _<_}
+use Prim.Native.Nat.{ℕ, suc, _+_, _-_, _<_}
 use native.Mathlib.Omega.{arith}
 use lib.Dec.{ltb}
 use lib.ListN.{length, getD, take, drop}
@@ -14,20 +14,20 @@ use Rattle.ranges.specs.Ranges as ranges
 use Rattle.states.specs.declared.State.{State}
 use Rattle.states.specs.declared.Verdict.the-variants.{Good, Refused}
 use Rattle.states.specs.declared.Answer as code-answer
-use Rattle.states.specs.Answers.{Answer, Gives, Refuses, answered}
+use Rattle.states.specs.Answers.{Gives, Refuses, answered}
 use Rattle.states.specs.States as states
 use Rattle.paper.specs.Code as code
 use Rattle.paper.specs.Rules as rules
 use Rattle.paper.specs.Rules.{Setting}
 use Rattle.paper.specs.Limits.{Each}
 use Rattle.paper.specs.Trace as trace
-use Rattle.paper.specs.Tree.{Statement, Normalize, Statements}
+use Rattle.paper.specs.Tree.{Normalize, Statements}
 use Rattle.analysis.specs.declared.Values.{Values}
 use Rattle.analysis.specs.declared.Values.the-variants.{Unbounded, TooMany, From}
 use Rattle.analysis.specs.Loops.{GivenAre, values-of}
 use Rattle.analysis.specs.Noted as noted
 use Rattle.analysis.specs.Noted.{Noted, plain, then-noted, Says}
-use Rattle.analysis.proofs.Says.{Leads, leads-self, leads-then, leads-by, says-plain, then-good, then-stopped, answered-good, answered-refused}
+use Rattle.analysis.proofs.Says.{Leads, leads-then, leads-by, says-plain, then-good, then-stopped, answered-good, answered-refused}
 
 -- a normalize is its given variables and its body
 pub normalize-is : (g : Setting) (at : ℕ) (vs : List ℕ) (b : Statements) (s : State) → noted.statement g at (Normalize vs b) s ≡ noted.normalized g (at + 2) vs (code.normalized-at at vs) b s

@@ -1,20 +1,19 @@
 -- Plain statements in words: how long they are, what each word is, and the bounds on it.
 use mathlib.Core.Path.{_≡_, refl, sym, ap, _∙_, subst}
-use mathlib.Core.Bool.{Bool, true, false}
-use mathlib.Core.List.{List, [], _∷_}
-use mathlib.Core.Logic.{_⊎_, inl, inr, ⊎-elim}
+use mathlib.Core.Bool.{Bool}
+use mathlib.Core.List.{List, _∷_}
 use Prim.Native.Nat.{ℕ, zero, suc, _+_, _-_, _<_, _≤_}
 use native.Mathlib.Omega.{arith}
 use lib.Dec.{eqb}
 use lib.ListN.{length, getD, take, drop}
 use Rattle.ranges.specs.declared.Bounded.{Bounded}
-use Rattle.ranges.specs.declared.Bounded.the-variants.{Is, Over}
+use Rattle.ranges.specs.declared.Bounded.the-variants.{Is}
 use Rattle.ranges.specs.declared.Range.{Range}
 use Rattle.ranges.specs.Ranges as ranges
-use Rattle.paper.specs.Tree.{Draw, Addend, Nought, Times, Statement, Sample, Assign, Decrement, IfThenElse, While, Fail, Normalize}
+use Rattle.paper.specs.Tree.{Addend, Nought, Times, Statement, Sample, Assign, Decrement, IfThenElse, While, Fail, Normalize}
 use Rattle.paper.specs.Code as code
 use Rattle.paper.specs.Rules as rules
-use Rattle.paper.specs.Limits.{DrawIn, AddendIn}
+use Rattle.paper.specs.Limits.{AddendIn}
 use Rattle.words.specs.Parts.{Begins, StatementWithin, StatementIs, DrawIs}
 use Rattle.words.proofs.Parts.{begins-whole, begins-head, part-is}
 use Rattle.words.proofs.Nodes.{begins-second, addend-of, SampleAt, AssignAt, DecrementAt, sample-here, assign-here, decrement-here, statement-kind, draw-some, statement-some}

@@ -1,8 +1,8 @@
 -- One law for each way that the code of lists, statements and loops goes.
-use mathlib.Core.Path.{_≡_, refl, sym, ap, _∙_}
+use mathlib.Core.Path.{_≡_, refl, ap, _∙_}
 use mathlib.Core.Bool.{Bool, true, false, cond}
 use mathlib.Core.List.{List, [], _∷_, _++_}
-use Prim.Native.Nat.{ℕ, zero, suc, _+_, _-_, _<_}
+use Prim.Native.Nat.{ℕ, _+_, _-_, _<_}
 use native.Mathlib.Omega.{arith}
 use lib.ListN.{length, set}
 use Rattle.ranges.specs.declared.Bounded.{Bounded}
@@ -11,19 +11,17 @@ use Rattle.ranges.specs.declared.Range.{Range}
 use Rattle.states.specs.declared.State.{State}
 use Rattle.states.specs.declared.Verdict.the-variants.{Good, Refused}
 use Rattle.states.specs.declared.Answer as code-answer
-use Rattle.states.specs.Answers.{Answer, Gives, Refuses, answered}
+use Rattle.states.specs.Answers.{Gives, Refuses, answered}
 use Rattle.states.specs.States as states
 use Rattle.paper.specs.Code as code
 use Rattle.paper.specs.Rules as rules
 use Rattle.paper.specs.Rules.{Setting}
 use Rattle.paper.specs.Trace as trace
-use Rattle.paper.specs.Tree.{Addend, Nought, Times, Unroll, Event}
-use Rattle.paper.specs.Tree.{Statement, Sample, Assign, Decrement, IfThenElse, While, Fail, Normalize, Statements, done, _then_}
+use Rattle.paper.specs.Tree.{Nought, Times, Event, Statement, Sample, Assign, Decrement, IfThenElse, While, Fail, Normalize, Statements, done, _then_}
 use Rattle.analysis.specs.Noted as noted
-use Rattle.analysis.specs.Noted.{Noted, plain, then-noted, from, ending, Says}
+use Rattle.analysis.specs.Noted.{Noted, then-noted, from, ending, Says}
 use Rattle.analysis.specs.Plain.{kind, summed, target, source, change, changed}
-use Rattle.analysis.proofs.Says.{Leads, leads-self, leads-then, leads-by, says-plain, from-good, from-refused, then-good, then-stopped, ending-good, ending-stopped}
-use Rattle.analysis.proofs.Says.{answered-good, answered-refused}
+use Rattle.analysis.proofs.Says.{Leads, leads-self, leads-then, leads-by, says-plain, from-good, from-refused, then-good, then-stopped, ending-good, ending-stopped, answered-good, answered-refused}
 
 -- ---- marks
 

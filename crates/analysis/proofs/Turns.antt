@@ -1,7 +1,7 @@
 -- One law for each way that the code of a loop's passes and stages goes.
 use mathlib.Core.Path.{_≡_, refl, sym, ap, _∙_}
 use mathlib.Core.Bool.{Bool, true, false}
-use mathlib.Core.List.{List, [], _∷_, _++_, append-nil}
+use mathlib.Core.List.{List, []}
 use Prim.Native.Nat.{ℕ, zero, suc, _+_, _-_, _<_, _≤_}
 use native.Mathlib.Omega.{arith}
 use Rattle.states.specs.declared.State.{State}
@@ -13,7 +13,7 @@ use Rattle.paper.specs.Code as code
 use Rattle.paper.specs.Rules as rules
 use Rattle.paper.specs.Rules.{Setting}
 use Rattle.paper.specs.Trace as trace
-use Rattle.paper.specs.Tree.{Unroll, Event, Statement, While, Statements}
+use Rattle.paper.specs.Tree.{Unroll, Event, While, Statements}
 use Rattle.analysis.specs.declared.Pass.{Pass}
 use Rattle.analysis.specs.declared.Found.{Found}
 use Rattle.analysis.specs.declared.Found.the-variants.{At, Nowhere, Refused as Stopped}
@@ -23,9 +23,8 @@ use Rattle.analysis.specs.declared.LoopAnswer.{LoopAnswer}
 use Rattle.analysis.specs.Loops.{refusal-of, unrolls-by, searched-by}
 use Rattle.analysis.specs.Outcomes.{passed, found-by, grown, settled-on, looped}
 use Rattle.analysis.specs.Noted as noted
-use Rattle.analysis.specs.Noted.{Noted, plain, then-noted, from, ending, Says}
-use Rattle.analysis.proofs.Says.{Leads, leads-self, leads-then, leads-by, says-plain, from-good, from-refused, then-good, then-refused, then-stopped, ending-good, ending-refused, ending-stopped}
-use Rattle.analysis.proofs.Says.{answered-good, answered-refused, passed-good, passed-refused, grown-good, grown-refused, settled-good, settled-refused, looped-good, looped-refused}
+use Rattle.analysis.specs.Noted.{Noted, plain, then-noted, ending, Says}
+use Rattle.analysis.proofs.Says.{Leads, leads-self, leads-then, leads-by, says-plain, from-good, from-refused, then-good, then-refused, then-stopped, ending-good, ending-refused, answered-good, answered-refused, passed-good, passed-refused, grown-good, grown-refused, settled-good, settled-refused, looped-good, looped-refused}
 
 -- ---- what the search found
 

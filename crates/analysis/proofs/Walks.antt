@@ -1,35 +1,34 @@
 -- The ways of the walk's functions, put together at the places that the code has.
 use mathlib.Core.Path.{_≡_, refl, sym, ap, _∙_, subst}
-use mathlib.Core.Bool.{Bool, true, false, cond}
-use mathlib.Core.List.{List, []}
-use Prim.Native.Nat.{ℕ, suc, _+_, _-_, _*_, _<_, _≤_}
+use mathlib.Core.Bool.{true, false, cond}
+use mathlib.Core.List.{List}
+use Prim.Native.Nat.{ℕ, _+_, _-_, _<_, _≤_}
 use native.Mathlib.Omega.{arith}
 use lib.ListN.{length, getD, take, drop, set}
+use Rattle.ranges.specs.declared.Bounded.{Bounded}
 use Rattle.ranges.specs.declared.Bounded.the-variants.{Is, Over}
 use Rattle.ranges.specs.declared.Range.{Range}
 use Rattle.states.specs.declared.State.{State}
 use Rattle.states.specs.declared.Verdict.the-variants.{Good, Refused}
 use Rattle.states.specs.declared.Answer as code-answer
-use Rattle.states.specs.Answers.{Answer, Gives, Refuses, answered}
+use Rattle.states.specs.Answers.{Gives, Refuses, answered}
 use Rattle.states.specs.States as states
 use Rattle.paper.specs.Code as code
 use Rattle.paper.specs.Rules as rules
 use Rattle.paper.specs.Rules.{Setting}
-use Rattle.paper.specs.Trace as trace
-use Rattle.paper.specs.Tree.{Unroll, Event, Statement, IfThenElse, While, Fail, Normalize, Statements, done, _then_}
-use Rattle.words.specs.Parts.{Begins, ListWithin, StatementWithin, StatementIs, ListIs}
+use Rattle.paper.specs.Tree.{Event, Statement, IfThenElse, Fail, Statements, _then_}
+use Rattle.words.specs.Parts.{Begins, ListWithin, StatementWithin, StatementIs}
 use Rattle.words.proofs.Parts.{begins-whole, begins-at, begins-tail, part-is}
-use Rattle.words.proofs.Nodes.{NextAt, next-here, statement-kind, fail-here, done-here, statement-some, statement-ends}
+use Rattle.words.proofs.Nodes.{NextAt, next-here, statement-kind, fail-here, done-here, statement-ends}
 use Rattle.words.proofs.Bounds.{next-bounds}
 use Rattle.events.specs.declared.Sides.{Sides}
 use Rattle.events.specs.Sided.{sided}
 use Rattle.events.proofs.Steps.{sides-given, sides-refused}
-use Rattle.analysis.specs.declared.Pass.{Pass}
 use Rattle.analysis.specs.Outcomes.{passed}
 use Rattle.analysis.specs.Noted as noted
 use Rattle.analysis.specs.Noted.{Noted, Says}
 use Rattle.analysis.specs.Plain as plain
-use Rattle.analysis.proofs.Says.{Leads, leads-self, leads-then, leads-by}
+use Rattle.analysis.proofs.Says.{Leads, leads-self, leads-then}
 use Rattle.analysis.proofs.Steps as steps
 use Rattle.analysis.proofs.Turns as turns
 use Rattle.analysis.proofs.Plains.{plain-kind, plain-long, begins-kind, begins-target}
@@ -136,6 +135,10 @@ only-fail {ws} c e least no-if no-loop no-normalize =
 
 -- ---- a list
 
+-- a plain statement gives the same from the same ranges
+pub same-change : (c : Statement) {own read own₁ read₁ : Range} → own ≡ own₁ → read ≡ read₁ → plain.change c own read ≡ plain.change c own₁ read₁
+same-change c p q = rw (p, q)
+
 -- what is left of the list t at `at`, with so many statements left: it lies within the limits, and what it answers from here on is t's answer
 pub record Going (g : Setting) (base : ℕ) (ws : List ℕ) (s₀ : State) (m₀ : List ℕ) (t : Statements) (left at : ℕ) (s : State) (m : List ℕ) : Type 0 where
   pub rest : Statements
@@ -208,17 +211,16 @@ module _ {g : Setting} {base : ℕ} {ws : List ℕ} {s₀ : State} {m₀ : List 
       abbrev made : Range → State
       made r = states.put s (plain.target (going-next .head)) r
 
-      module _ (own read : Range) (own-is : own ≡ states.get s (plain.target (going-next .head))) (read-is : read ≡ states.get s (plain.source (going-next .head))) where
-        as-read : plain.change (going-next .head) own read ≡ plain.change (going-next .head) (states.get s (plain.target (going-next .head))) (states.get s (plain.source (going-next .head)))
-        as-read = rw (own-is, read-is)
+      abbrev given : Bounded
+      given = plain.change (going-next .head) (states.get s (plain.target (going-next .head))) (states.get s (plain.source (going-next .head)))
 
-        pub going-over : s .live ≡ true → Over ≡ plain.change (going-next .head) own read → Says answered (noted.list g (base + 1) t s₀) (answered (Refuses 8 (base + at))) m₀ m
-        going-over l e = from-next (answered (Refuses 8 (base + at))) m (steps.plain-over g (base + at) s (going-next .head) (going-next .tail) plainly m l (sym (e ∙ as-read)))
+      pub going-over : s .live ≡ true → Over ≡ given → Says answered (noted.list g (base + 1) t s₀) (answered (Refuses 8 (base + at))) m₀ m
+      going-over l e = from-next (answered (Refuses 8 (base + at))) m (steps.plain-over g (base + at) s (going-next .head) (going-next .tail) plainly m l (sym e))
 
-        pub going-changed : (end : ℕ) → end ≡ at + length (code.statement (going-next .head)) → {r : Range} → Is r ≡ plain.change (going-next .head) own read → (s₁ : State) → s₁ ≡ made r →
-            Going g base ws s₀ m₀ t (left - 1) end s₁ m
-        going-changed end e {r} q s₁ h = subst (λ (z : State). Going g base ws s₀ m₀ t (left - 1) end z m) (sym h)
-            (going-on end (made r) m e (steps.plain-on g (base + at) s (going-next .head) (going-next .tail) plainly m (sym (q ∙ as-read))))
+      pub going-changed : (end : ℕ) → end ≡ at + length (code.statement (going-next .head)) → {r : Range} → Is r ≡ given → (s₁ : State) → s₁ ≡ made r →
+          Going g base ws s₀ m₀ t (left - 1) end s₁ m
+      going-changed end e {r} q s₁ h = subst (λ (z : State). Going g base ws s₀ m₀ t (left - 1) end z m) (sym h)
+          (going-on end (made r) m e (steps.plain-on g (base + at) s (going-next .head) (going-next .tail) plainly m (sym q)))
 
       pub going-dead : (end : ℕ) → end ≡ at + length (code.statement (going-next .head)) → s .live ≡ false → Going g base ws s₀ m₀ t (left - 1) end s m
       going-dead end e d = going-on end s m e (steps.plain-dead g (base + at) s (going-next .head) (going-next .tail) plainly m d)

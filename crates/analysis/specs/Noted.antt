@@ -1,13 +1,10 @@
 -- The rules and the trace side by side: an answer, and the lists entered on the way to it.
 use mathlib.Core.Path.{_≡_}
-use mathlib.Core.Bool.{true, false}
 use mathlib.Core.List.{List, [], _++_}
 use Prim.Native.Nat.{ℕ, _+_}
-use lib.ListN.{length}
 use Rattle.states.specs.declared.State.{State}
-use Rattle.states.specs.Answers.{Answer, Gives, Refuses, and-then}
-use Rattle.states.specs.States as states
-use Rattle.paper.specs.Tree.{Event, Statement, Statements, While}
+use Rattle.states.specs.Answers.{Answer, and-then}
+use Rattle.paper.specs.Tree.{Event, Statement, Statements}
 use Rattle.paper.specs.Code as code
 use Rattle.paper.specs.Rules as rules
 use Rattle.paper.specs.Rules.{Setting}

@@ -1,6 +1,5 @@
 -- The rules' answers as the code has them: a refusal hands back empty states and no counts.
 use mathlib.Core.Bool.{false}
-use Prim.Native.Nat.{ℕ}
 use Rattle.states.specs.declared.Verdict.the-variants.{Good, Refused}
 use Rattle.states.specs.Answers.{Answer, Gives, Refuses}
 use Rattle.states.specs.States as states

@@ -18,7 +18,6 @@ use states::Verdict;
 use words::ends;
 ghost use mathlib.Core.Path.{_≡_};
 ghost use mathlib.Core.Bool.{cond};
-ghost use mathlib.Core.List.{List};
 ghost use Prim.Native.Nat.{ℕ, _+_, _≤_, _<_, _^_};
 ghost use lib.ListN.{length, getD, set};
 ghost use Rattle.analysis.specs.Loops.{LoopIs, GivenAre, grow};
@@ -28,7 +27,7 @@ ghost use Rattle.analysis.specs.Outcomes.{passed, found-by, grown, settl
 ghost use Rattle.paper.specs.Code as code;
 ghost use Rattle.paper.specs.Rules as rules;
 ghost use Rattle.paper.specs.Tree.{Unroll, Event, Statement, Statements, While};
-ghost use Rattle.states.specs.Answers.{Answer as Answers, answered};
+ghost use Rattle.states.specs.Answers.{answered};
 ghost use Rattle.states.specs.States as states;
 ghost use Rattle.words.specs.Parts.{ListIs, StatementIs};
 

@@ -1,31 +1,21 @@
-use Rattle.analysis.proofs.Entries.{admitted-small, analysed-unadmitted, analysed-bad, walked-list, walked-refused, unsound-is, sound-is, program-words}
-use Rattle.analysis.proofs.Entries.{admitted-small, analysed-unadmitted, analysed-bad, walked-list, walked-refused, unsound-is, sound-is}
-use Rattle.analysis.proofs.Says.{answered-good, answered-refused}
+-- `entry::walked` meets its contract: refused at admission, by the check, or the walk over the program that the words are.
+use mathlib.Core.Path.{ap, sym, _∙_}
+use native.Mathlib.Omega.{arith}
+use borrow.Author.Needs.{needs}
+use Rattle.states.specs.Answers.{answered}
 use Rattle.paper.specs.Reader as reader
 use Rattle.paper.specs.Answers as answers
-use Rattle.states.specs.Answers.{answered}
-use lib.ListN.{length}
-use native.Mathlib.Omega.{arith}
-use mathlib.Core.Path.{_≡_, ap, sym, _∙_}
-use borrow.Author.Needs.{needs}
+use Rattle.analysis.proofs.Entries.{admitted-small, analysed-unadmitted, analysed-bad, walked-list, walked-refused, unsound-is, sound-is, program-words}
+use Rattle.analysis.proofs.Says.{answered-good, answered-refused}
 use Rattle.analysis.proofs.entry.walked.Statement.{statement}
 use Rattle.analysis.proofs.entry.walked.Tie as tie
-use Rattle.analysis.proofs.entry.walked.Reads as reads
-use Rattle.analysis.proofs.entry.walked.Lts as lts
-use Rattle.analysis.proofs.entry.admitted.Reads as admitted-reads
-use Rattle.analysis.proofs.walk.list.Reads as list-reads
-use Rattle.states.proofs.refused.Reads as refused-reads
-use Rattle.words.proofs.check.Reads as check-reads
 
--- src/entry.rt:37:9
 admitted-requires : tie.Need-admitted-requires
 admitted-requires c κs = search needs
 
--- src/entry.rt:40:9
 enum-told : tie.Need-enum-told
 enum-told c = search needs
 
--- src/entry.rt:40:9
 returns : tie.Need-returns
 returns c =
     let s = c .before .before .before .before .before in
@@ -35,19 +25,15 @@ returns c =
 enum-told-2 : tie.Need-enum-told-2
 enum-told-2 c = search needs
 
--- src/entry.rt:42:9
 check-requires : tie.Need-check-requires
 check-requires c κs = search needs
 
--- src/entry.rt:43:29
 enum-known-checked : tie.Need-enum-known-checked
 enum-known-checked c = search needs
 
--- src/entry.rt:44:9
 refused-requires : tie.Need-refused-requires
 refused-requires c κs = search needs
 
--- src/entry.rt:44:9
 returns-2 : tie.Need-returns-2
 returns-2 c =
     let s = c .before .before .before .before .before .before .before .before .before .before in
@@ -58,7 +44,6 @@ returns-2 c =
 enum-told-3 : tie.Need-enum-told-3
 enum-told-3 c = search needs
 
--- src/entry.rt:47:5
 list-requires : tie.Need-list-requires
 list-requires c κs =
     let s = c .before .before .before .before .before .before .before .before .before .before in
@@ -67,11 +52,9 @@ list-requires c κs =
     let m = admitted-small (s .args .words .now) (s .args .n) (s .args .unroll) (s .args .start .cells) a in
     (program-words p, (m .1, (m .2, omega (arith, m .0, s .pre))))
 
--- src/entry.rt:33:1
 same-length : tie.Need-same-length
 same-length c = search needs
 
--- src/entry.rt:33:1
 returns-3 : tie.Need-returns-3
 returns-3 c =
     let s = c .before .before .before .before .before .before .before .before .before .before .before .before .before in

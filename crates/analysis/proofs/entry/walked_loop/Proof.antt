@@ -1,38 +1,26 @@
-use Rattle.analysis.proofs.Entries.{admitted-small, looped-unadmitted, looped-unbegun, looped-bad, looped-read, begun-good, one-loop, one-answer, part-size, unsound-is, sound-is}
-use Rattle.analysis.proofs.Says.{answered-good, answered-refused}
-use Rattle.analysis.specs.Outcomes.{looped as loop-answer}
-use Rattle.paper.specs.Rules.{Looped}
+-- `entry::walked_loop` meets its contract: refused at admission, at the first two words, by the check, or the walk over the one loop.
+use mathlib.Core.Path.{ap, sym, _∙_}
+use Prim.Native.Nat.{_-_, _≤_}
+use native.Mathlib.Omega.{arith}
+use lib.ListN.{length, take, drop}
+use borrow.Author.Needs.{needs}
 use Rattle.paper.specs.Reader as reader
 use Rattle.paper.specs.Answers as answers
-use Rattle.states.specs.Answers.{Answer}
-use Prim.Native.Nat.{_-_, _≤_}
-use lib.ListN.{length, take, drop}
-use native.Mathlib.Omega.{arith}
-use mathlib.Core.Path.{_≡_, ap, sym, _∙_}
-use borrow.Author.Needs.{needs}
+use Rattle.analysis.specs.Outcomes.{looped as loop-answer}
+use Rattle.analysis.proofs.Entries.{admitted-small, looped-unadmitted, looped-unbegun, looped-bad, looped-read, begun-good, one-loop, one-answer, part-size, unsound-is, sound-is}
+use Rattle.analysis.proofs.Says.{answered-good, answered-refused}
 use Rattle.analysis.proofs.entry.walked_loop.Statement.{statement}
 use Rattle.analysis.proofs.entry.walked_loop.Tie as tie
-use Rattle.analysis.proofs.entry.walked_loop.Reads as reads
-use Rattle.analysis.proofs.entry.walked_loop.Lts as lts
-use Rattle.analysis.proofs.entry.admitted.Reads as admitted-reads
-use Rattle.analysis.proofs.entry.begins.Reads as begins-reads
-use Rattle.analysis.proofs.outcomes.no_loop.Reads as no-loop-reads
-use Rattle.analysis.proofs.walk.looped.Reads as looped-reads
-use Rattle.words.proofs.check.Reads as check-reads
 
--- src/entry.rt:74:9
 admitted-requires : tie.Need-admitted-requires
 admitted-requires c κs = search needs
 
--- src/entry.rt:76:29
 enum-known-verdict : tie.Need-enum-known-verdict
 enum-known-verdict c = search needs
 
--- src/entry.rt:77:9
 no-loop-requires : tie.Need-no-loop-requires
 no-loop-requires c κs = search needs
 
--- src/entry.rt:77:9
 returns : tie.Need-returns
 returns c =
     let s = c .before .before .before .before .before .before .before in
@@ -42,19 +30,15 @@ returns c =
 enum-told : tie.Need-enum-told
 enum-told c = search needs
 
--- src/entry.rt:79:9
 begins-requires : tie.Need-begins-requires
 begins-requires c κs = search needs
 
--- src/entry.rt:80:29
 enum-known-beginning : tie.Need-enum-known-beginning
 enum-known-beginning c = search needs
 
--- src/entry.rt:81:9
 no-loop-requires-2 : tie.Need-no-loop-requires-2
 no-loop-requires-2 c κs = search needs
 
--- src/entry.rt:81:9
 returns-2 : tie.Need-returns-2
 returns-2 c =
     let s = c .before .before .before .before .before .before .before .before .before .before in
@@ -64,19 +48,15 @@ returns-2 c =
 enum-told-2 : tie.Need-enum-told-2
 enum-told-2 c = search needs
 
--- src/entry.rt:83:9
 check-requires : tie.Need-check-requires
 check-requires c κs = search needs
 
--- src/entry.rt:84:29
 enum-known-checked : tie.Need-enum-known-checked
 enum-known-checked c = search needs
 
--- src/entry.rt:85:9
 no-loop-requires-3 : tie.Need-no-loop-requires-3
 no-loop-requires-3 c κs = search needs
 
--- src/entry.rt:85:9
 returns-3 : tie.Need-returns-3
 returns-3 c =
     let s = c .before .before .before .before .before .before .before .before .before .before .before .before .before in
@@ -88,25 +68,21 @@ returns-3 c =
 enum-told-3 : tie.Need-enum-told-3
 enum-told-3 c = search needs
 
--- src/entry.rt:88:18
 sub-looped : tie.Need-sub-looped
 sub-looped c =
     let s = c .before .before .before .before .before .before .before .before .before .before .before .before in
     let g = begun-good (s .args .words .now) (sym (c .before .before .before .before .enum-told2 .given .1) ∙ c .before .before .before .before .before .before .begins .ensures) in
     omega (arith, g .long)
 
--- src/entry.rt:88:18
 part-looped-start : tie.Need-part-looped-start
 part-looped-start c =
     let s = c .before .before .before .before .before .before .before .before .before .before .before .before in
     let g = begun-good (s .args .words .now) (sym (c .before .before .before .before .enum-told2 .given .1) ∙ c .before .before .before .before .before .before .begins .ensures) in
     omega (arith, g .long)
 
--- src/entry.rt:88:18
 part-looped-end : tie.Need-part-looped-end
 part-looped-end c = search needs
 
--- src/entry.rt:88:5
 looped-requires : tie.Need-looped-requires
 looped-requires c κs =
     let s = c .before .before .before .before .before .before .before .before .before .before .before .before .before .before in
@@ -118,11 +94,9 @@ looped-requires c κs =
     let size : length (take (length (s .args .words .now) - 1) (drop 1 (s .args .words .now))) ≤ length (s .args .words .now) - 1 = part-size (s .args .words .now) in
     (o .loop, (m .1, (m .2, omega (arith, m .0, g .long, s .pre))))
 
--- src/entry.rt:70:1
 same-length : tie.Need-same-length
 same-length c = search needs
 
--- src/entry.rt:70:1
 returns-4 : tie.Need-returns-4
 returns-4 c =
     let s = c .before .before .before .before .before .before .before .before .before .before .before .before .before .before .before .before .before in

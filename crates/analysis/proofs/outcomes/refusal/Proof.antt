@@ -1,30 +1,23 @@
+-- `outcomes::refusal` meets its contract: each answer is the definition at the case that was matched.
 use borrow.Author.Needs.{needs}
 use Rattle.analysis.proofs.outcomes.refusal.Statement.{statement}
 use Rattle.analysis.proofs.outcomes.refusal.Tie as tie
-use Rattle.analysis.proofs.outcomes.refusal.Reads as reads
-use Rattle.analysis.proofs.outcomes.refusal.Lts as lts
 
--- src/outcomes.rt:105:25
 enum-told : tie.Need-enum-told
 enum-told c = search needs
 
--- src/outcomes.rt:106:27
 enum-told-2 : tie.Need-enum-told-2
 enum-told-2 c = search needs
 
--- src/outcomes.rt:107:24
 enum-known-found : tie.Need-enum-known-found
 enum-known-found c = search needs
 
--- src/outcomes.rt:101:1
 returns : tie.Need-returns
 returns c = search needs
 
--- src/outcomes.rt:101:1
 returns-2 : tie.Need-returns-2
 returns-2 c = search needs
 
--- src/outcomes.rt:101:1
 returns-3 : tie.Need-returns-3
 returns-3 c = rw (c .before .found .given .1)
 

@@ -1,36 +1,27 @@
-use mathlib.Core.Path.{_≡_}
+-- `outcomes::searched` meets its contract: each answer is the definition at the case that was matched.
 use native.Mathlib.Omega.{arith}
 use borrow.Author.Needs.{needs}
 use Rattle.analysis.proofs.outcomes.searched.Statement.{statement}
 use Rattle.analysis.proofs.outcomes.searched.Tie as tie
-use Rattle.analysis.proofs.outcomes.searched.Reads as reads
-use Rattle.analysis.proofs.outcomes.searched.Lts as lts
 
--- src/outcomes.rt:118:19
 enum-known-found : tie.Need-enum-known-found
 enum-known-found c = search needs
 
--- src/outcomes.rt:118:25
 add-result : tie.Need-add-result
 add-result c = let h = rw (c .before .found .given .1) at (c .before .before .before .pre) in omega arith
 
--- src/outcomes.rt:119:27
 enum-told : tie.Need-enum-told
 enum-told c = search needs
 
--- src/outcomes.rt:120:33
 enum-told-2 : tie.Need-enum-told-2
 enum-told-2 c = search needs
 
--- src/outcomes.rt:113:1
 returns : tie.Need-returns
 returns c = rw (c .before .found .given .1)
 
--- src/outcomes.rt:113:1
 returns-2 : tie.Need-returns-2
 returns-2 c = search needs
 
--- src/outcomes.rt:113:1
 returns-3 : tie.Need-returns-3
 returns-3 c = search needs
 

@@ -1,35 +1,27 @@
+-- `outcomes::unrolls` meets its contract: the higher of the two where an index was found.
 use native.Mathlib.Omega.{arith}
 use borrow.Author.Needs.{needs}
 use Rattle.analysis.proofs.outcomes.unrolls.Statement.{statement}
 use Rattle.analysis.proofs.outcomes.unrolls.Tie as tie
-use Rattle.analysis.proofs.outcomes.unrolls.Reads as reads
-use Rattle.analysis.proofs.outcomes.unrolls.Lts as lts
 
--- src/outcomes.rt:101:19
 enum-known-found : tie.Need-enum-known-found
 enum-known-found c = search needs
 
--- src/outcomes.rt:103:17
 returns : tie.Need-returns
 returns c = rw (c .before .before .found .given .1) (omega arith)
 
--- src/outcomes.rt:107:27
 enum-told : tie.Need-enum-told
 enum-told c = search needs
 
--- src/outcomes.rt:108:33
 enum-told-2 : tie.Need-enum-told-2
 enum-told-2 c = search needs
 
--- src/outcomes.rt:97:1
 returns-2 : tie.Need-returns-2
 returns-2 c = rw (c .before .before .found .given .1) (omega arith)
 
--- src/outcomes.rt:97:1
 returns-3 : tie.Need-returns-3
 returns-3 c = search needs
 
--- src/outcomes.rt:97:1
 returns-4 : tie.Need-returns-4
 returns-4 c = search needs
 

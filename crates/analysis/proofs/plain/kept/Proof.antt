@@ -1,21 +1,15 @@
+-- `plain::kept` meets its contract: the flag says whether the range is kept.
 use borrow.Author.Tests.{eq-eqb, ne-eqb}
-use mathlib.Core.Path.{_≡_}
 use borrow.Author.Needs.{needs}
 use Rattle.analysis.proofs.plain.kept.Statement.{statement}
 use Rattle.analysis.proofs.plain.kept.Tie as tie
-use Rattle.analysis.proofs.plain.kept.Reads as reads
-use Rattle.analysis.proofs.plain.kept.Lts as lts
-use Rattle.ranges.proofs.zero.Reads as zero-reads
 
--- src/plain.rt:21:9
 returns : tie.Need-returns
 returns c = rw (eq-eqb (c .before .args .add) 1 (c .if1 .taken))
 
--- src/plain.rt:23:5
 zero-requires : tie.Need-zero-requires
 zero-requires c κs = search needs
 
--- src/plain.rt:17:1
 returns-2 : tie.Need-returns-2
 returns-2 c = rw (ne-eqb (c .before .before .args .add) 1 (c .before .if1 .left), c .zero .ensures)
 

@@ -1,36 +1,26 @@
+-- `plain::summed` meets its contract: two sums, or the product's overflow.
 use borrow.Author.Needs.{needs}
 use Rattle.analysis.proofs.plain.summed.Statement.{statement}
 use Rattle.analysis.proofs.plain.summed.Tie as tie
-use Rattle.analysis.proofs.plain.summed.Reads as reads
-use Rattle.analysis.proofs.plain.summed.Lts as lts
-use Rattle.ranges.proofs.arithmetic.sum.Reads as sum-reads
-use Rattle.ranges.proofs.point.Reads as point-reads
 
--- src/plain.rt:40:26
 enum-told : tie.Need-enum-told
 enum-told c = search needs
 
--- src/plain.rt:41:21
 enum-known-product : tie.Need-enum-known-product
 enum-known-product c = search needs
 
--- src/plain.rt:42:17
 sum-requires : tie.Need-sum-requires
 sum-requires c κs = search needs
 
--- src/plain.rt:43:44
 point-requires : tie.Need-point-requires
 point-requires c κs = search needs
 
--- src/plain.rt:43:17
 sum-requires-2 : tie.Need-sum-requires-2
 sum-requires-2 c κs = search needs
 
--- src/plain.rt:36:1
 returns : tie.Need-returns
 returns c = search needs
 
--- src/plain.rt:36:1
 returns-2 : tie.Need-returns-2
 returns-2 c = rw (c .before .before .before .before .product .given .1, c .sum2 .ensures, c .before .before .sum .ensures, c .before .point .ensures)
 

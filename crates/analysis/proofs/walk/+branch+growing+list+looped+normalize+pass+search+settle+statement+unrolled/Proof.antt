@@ -1,44 +1,51 @@
-use Rattle.analysis.proofs.Walks.{Going}
-use Rattle.analysis.proofs.Walks as walks
-use Rattle.analysis.proofs.Cuts.{branch-event, branch-then, branch-cut, loop-event, loop-cut, loop-is, loop-inside, loop-event-is, loop-body-is, normalize-long, normalize-cut}
-use Rattle.analysis.proofs.Plains.{target-below, source-below}
-use Rattle.analysis.proofs.Given as given-laws
-use Rattle.analysis.proofs.Turns as turns-laws
-use Rattle.analysis.proofs.Steps as steps
-use Rattle.analysis.proofs.Says.{Leads, leads-self, leads-then, leads-by, answered-good, answered-refused}
-use Rattle.analysis.specs.Outcomes as outcomes
-use Rattle.analysis.specs.Noted.{Says, setting}
-use Rattle.analysis.specs.Noted as noted
-use Rattle.analysis.specs.Loops as stages
-use Rattle.paper.specs.Limits.{Each}
-use Rattle.words.proofs.Bounds.{branch-bounds, normalize-bounds}
-use Rattle.words.proofs.Parts.{begins-whole}
-use Rattle.words.proofs.Nodes.{statement-some, while-here}
-use Rattle.paper.specs.Rules as rules
-use Rattle.paper.specs.Code as code
-use Rattle.paper.specs.Tree.{Unroll, Event, Statement, Statements, While}
-use Rattle.analysis.proofs.Passed.{answer-long}
-use Rattle.analysis.specs.Plain as plain
-use Rattle.events.proofs.Steps.{put-span, put-none}
+-- The walk meets its contracts. The words of a part fall; at one part a list is below a pass, a pass below the stages of its loop, and these below the statement.
+use mathlib.Core.List.{List}
+use mathlib.Core.Bool.{true}
+use mathlib.Core.Path.{_≡_, refl, ap, sym, _∙_, subst}
+use Prim.Native.Nat.{_^_, suc, _+_, _-_, _≤_, _*_, ℕ, _<_}
+use native.Mathlib.Omega.{arith}
+use lib.ListN.{length, take, drop, getD, length-set}
+use borrow.Author.Needs.{needs}
+use borrow.Fn.Kinds.{In}
+use borrow.Fn.PlainCycle.{Measures, is, falls, and}
 use Rattle.states.proofs.Passed.{state-long}
 use Rattle.states.proofs.Cells.{there}
 use Rattle.states.specs.declared.Cell.{Cell}
 use Rattle.states.specs.States as states
-use Rattle.states.specs.Answers.{Gives, Refuses, answered}
+use Rattle.states.specs.Answers.{Gives, answered}
 use Rattle.states.specs.declared.State.{State}
-use Rattle.ranges.specs.declared.Range.{Range}
-use borrow.Author.Tests.{eq-eqb}
-use lib.ListN.{length, take, drop, getD, length-set, set}
-use native.Mathlib.Omega.{arith}
-use Prim.Native.Nat.{suc, max, _+_, _-_, _≤_, _*_}
-use mathlib.Core.Logic.{⊎-elim}
-use mathlib.Core.List.{List, [], _∷_}
-use mathlib.Core.Bool.{Bool, true, false}
-use mathlib.Core.Path.{_≡_, refl, ap, sym, _∙_, subst}
-use borrow.Author.Needs.{needs}
-use Prim.Native.Nat.{ℕ, _<_}
-use borrow.Fn.Kinds.{In}
-use borrow.Fn.PlainCycle.{Measures, is, falls, and}
+use Rattle.states.proofs.empty.Reads as empty-reads
+use Rattle.states.proofs.good.Reads as good-reads
+use Rattle.states.proofs.join.Reads as join-reads
+use Rattle.states.proofs.refused.Reads as refused-reads
+use Rattle.states.proofs.same.Reads as same-reads
+use Rattle.states.proofs.within.Reads as within-reads
+use Rattle.paper.specs.Limits.{Each}
+use Rattle.paper.specs.Rules as rules
+use Rattle.paper.specs.Code as code
+use Rattle.paper.specs.Tree.{Unroll, Event, Statement, Statements, While}
+use Rattle.words.proofs.Bounds.{branch-bounds, normalize-bounds}
+use Rattle.words.proofs.Parts.{begins-whole}
+use Rattle.words.proofs.Nodes.{statement-some, while-here}
+use Rattle.words.proofs.ends.event_end.Reads as event-end-reads
+use Rattle.words.proofs.ends.list_end.Reads as list-end-reads
+use Rattle.words.proofs.ends.statement_end.Reads as statement-end-reads
+use Rattle.events.proofs.Steps.{put-span, put-none}
+use Rattle.events.proofs.event.sides.Reads as sides-reads
+use Rattle.analysis.specs.Outcomes as outcomes
+use Rattle.analysis.specs.Noted.{Says, setting}
+use Rattle.analysis.specs.Noted as noted
+use Rattle.analysis.specs.Loops as stages
+use Rattle.analysis.specs.Plain as plain
+use Rattle.analysis.proofs.Walks.{Going}
+use Rattle.analysis.proofs.Walks as walks
+use Rattle.analysis.proofs.Cuts.{BranchCut, LoopCut, branch-event, branch-then, branch-cut, loop-event, loop-cut, loop-is, loop-inside, loop-event-is, loop-body-is, normalize-long, normalize-cut}
+use Rattle.analysis.proofs.Plains.{target-below, source-below}
+use Rattle.analysis.proofs.Given as given-laws
+use Rattle.analysis.proofs.Turns as turns-laws
+use Rattle.analysis.proofs.Steps as steps
+use Rattle.analysis.proofs.Says.{Leads, leads-self, leads-then, answered-good, answered-refused}
+use Rattle.analysis.proofs.Passed.{answer-long}
 use Rattle.analysis.proofs.walk.branch.Reads as branch
 use Rattle.analysis.proofs.walk.branch.Kinds as branch-kinds
 use Rattle.analysis.proofs.walk.+branch+growing+list+looped+normalize+pass+search+settle+statement+unrolled.Lts-branch as branch-lts
@@ -87,22 +94,8 @@ use Rattle.analysis.proofs.plain.change.Reads as change-reads
 use Rattle.analysis.proofs.plain.source.Reads as source-reads
 use Rattle.analysis.proofs.walk.leave.Reads as leave-reads
 use Rattle.analysis.proofs.walk.mark.Reads as mark-reads
-use Rattle.events.proofs.event.sides.Reads as sides-reads
-use Rattle.states.proofs.empty.Reads as empty-reads
-use Rattle.states.proofs.good.Reads as good-reads
-use Rattle.states.proofs.join.Reads as join-reads
-use Rattle.states.proofs.refused.Reads as refused-reads
-use Rattle.states.proofs.same.Reads as same-reads
-use Rattle.states.proofs.within.Reads as within-reads
-use Rattle.words.proofs.ends.event_end.Reads as event-end-reads
-use Rattle.words.proofs.ends.list_end.Reads as list-end-reads
-use Rattle.words.proofs.ends.statement_end.Reads as statement-end-reads
-use Rattle.analysis.proofs.walk.+branch+growing+list+looped+normalize+pass+search+settle+statement+unrolled.{
-  statement,
-}
-use Rattle.analysis.proofs.walk.+branch+growing+list+looped+normalize+pass+search+settle+statement+unrolled.Tie.{
-  close,
-}
+use Rattle.analysis.proofs.walk.+branch+growing+list+looped+normalize+pass+search+settle+statement+unrolled.{statement}
+use Rattle.analysis.proofs.walk.+branch+growing+list+looped+normalize+pass+search+settle+statement+unrolled.Tie.{close}
 
 abbrev μ-branch : Measures 2 branch-kinds.ps ℕ
 μ-branch κs a = 8 * length (a .0 .now) + 6
@@ -237,75 +230,67 @@ abbrev unrolled-claims : ℕ → unrolled-lts.Claims
 unrolled-claims t =
     (empty-reads.Asked, empty-reads.Learnt, pass-below t, pass.Post, join-reads.Asked, join-reads.Learnt, went-reads.Asked, went-reads.Learnt)
 
--- src/walk.rt:130:9
+-- words that stand at base in a program, with a mark for each: their places and their bytes are numbers of 64 bits
+abbrev Room : ℕ → List ℕ → List ℕ → Type 0
+Room base words marks = (base + length words ≤ length marks) × ((length words * 8 < 2 ^ 64) × (base + length words < 2 ^ 64))
+
+-- the parts of an if that the words are
+branch-parts : (t : ℕ) (c : branch-lts.After-list-end (branch-claims t) (branch-at t) branch.Post) (x : Statement) → c .before .before .before .before .args .words .now ≡ code.statement x → BranchCut (c .before .before .before .before .args .words .now) (c .before .event-end .result) (c .list-end .result) x
+branch-parts t c x h = branch-cut (c .before .before .before .before .args .words .now) x h (c .before .before .before .before .pre .1 .1 .0) (c .before .event-end .result) (c .before .event-end .ensures) (c .list-end .result) (c .list-end .ensures)
+
+-- where the then-list and the else-list of an if stand, within the words and the marks
+branch-room : (t : ℕ) (c : branch-lts.After-list-end (branch-claims t) (branch-at t) branch.Post) →
+    (1 < c .before .event-end .result) × ((c .before .event-end .result < c .list-end .result) × ((c .list-end .result < length (c .before .before .before .before .args .words .now)) ×
+    (Room (c .before .before .before .before .args .base) (c .before .before .before .before .args .words .now) (c .before .before .before .before .args .marks .now))))
+branch-room t c =
+    let s = c .before .before .before .before in
+    let p = s .pre .1 .0 in
+    let k = branch-parts t c (p .tree) (p .is) in
+    (k .some, (omega (arith, k .q-is), (omega (arith, k .whole), (s .pre .1 .1 .1 .1 .1, (omega (arith, s .good .0 .0, s .good .0 .1), omega (arith, s .pre .1 .1 .1 .1 .1, s .good))))))
+
 branch-event-end-requires : (t : ℕ) → branch-lts.Need-event-end-requires (branch-claims t) (branch-at t) branch.Post
 branch-event-end-requires t c κs =
     let s = c .before .before in
     branch-event (s .args .words .now) (s .pre .1 .0 .tree) (s .pre .1 .0 .is) (s .pre .1 .1 .0)
 
--- src/walk.rt:131:9
 branch-list-end-requires : (t : ℕ) → branch-lts.Need-list-end-requires (branch-claims t) (branch-at t) branch.Post
 branch-list-end-requires t c κs =
     let s = c .before .before .before in
     branch-then (s .args .words .now) (s .pre .1 .0 .tree) (s .pre .1 .0 .is) (s .pre .1 .1 .0) (c .event-end .result) (c .event-end .ensures)
 
--- src/walk.rt:132:26
 branch-sub-sides : (t : ℕ) → branch-lts.Need-sub-sides (branch-claims t) (branch-at t) branch.Post
-branch-sub-sides t c =
-    let s = c .before .before .before .before in
-    let p = s .pre .1 .0 in
-    let k = branch-cut (s .args .words .now) (p .tree) (p .is) (s .pre .1 .1 .0) (c .before .event-end .result) (c .before .event-end .ensures) (c .list-end .result) (c .list-end .ensures) in
-    omega (arith, k .some, k .p-is, k .q-is, k .whole, s .good .0 .0, s .good .0 .1, s .pre .1 .1 .1 .1 .1)
+branch-sub-sides t c = omega (arith, branch-room t c)
 
--- src/walk.rt:132:26
 branch-part-sides-start : (t : ℕ) → branch-lts.Need-part-sides-start (branch-claims t) (branch-at t) branch.Post
-branch-part-sides-start t c =
-    let s = c .before .before .before .before in
-    let p = s .pre .1 .0 in
-    let k = branch-cut (s .args .words .now) (p .tree) (p .is) (s .pre .1 .1 .0) (c .before .event-end .result) (c .before .event-end .ensures) (c .list-end .result) (c .list-end .ensures) in
-    omega (arith, k .some, k .p-is, k .q-is, k .whole, s .good .0 .0, s .good .0 .1, s .pre .1 .1 .1 .1 .1)
+branch-part-sides-start t c = omega (arith, branch-room t c)
 
--- src/walk.rt:132:26
 branch-part-sides-end : (t : ℕ) → branch-lts.Need-part-sides-end (branch-claims t) (branch-at t) branch.Post
-branch-part-sides-end t c =
-    let s = c .before .before .before .before in
-    let p = s .pre .1 .0 in
-    let k = branch-cut (s .args .words .now) (p .tree) (p .is) (s .pre .1 .1 .0) (c .before .event-end .result) (c .before .event-end .ensures) (c .list-end .result) (c .list-end .ensures) in
-    omega (arith, k .some, k .p-is, k .q-is, k .whole, s .good .0 .0, s .good .0 .1, s .pre .1 .1 .1 .1 .1)
+branch-part-sides-end t c = omega (arith, branch-room t c)
 
--- src/walk.rt:132:43
 branch-add-sides : (t : ℕ) → branch-lts.Need-add-sides (branch-claims t) (branch-at t) branch.Post
-branch-add-sides t c =
-    let s = c .before .before .before .before .before in
-    let p = s .pre .1 .0 in
-    let k = branch-cut (s .args .words .now) (p .tree) (p .is) (s .pre .1 .1 .0) (c .before .before .event-end .result) (c .before .before .event-end .ensures) (c .before .list-end .result) (c .before .list-end .ensures) in
-    omega (arith, k .some, k .p-is, k .q-is, k .whole, s .good .0 .0, s .good .0 .1, s .pre .1 .1 .1 .1 .1)
+branch-add-sides t c = omega (arith, branch-room t (c .before))
 
--- src/walk.rt:132:9
 branch-sides-requires : (t : ℕ) → branch-lts.Need-sides-requires (branch-claims t) (branch-at t) branch.Post
 branch-sides-requires t c κs =
     let s = c .before .before .before .before .before in
     let p = s .pre .1 .0 in
-    let k = branch-cut (s .args .words .now) (p .tree) (p .is) (s .pre .1 .1 .0) (c .before .before .event-end .result) (c .before .before .event-end .ensures) (c .before .list-end .result) (c .before .list-end .ensures) in (
+    let k = branch-parts t (c .before) (p .tree) (p .is) in (
       record { tree = k .event; is = k .event-part; within = branch-bounds (k .same) (p .within) .0 },
       (s .pre .1 .1 .1 .0, omega (arith, ap length (k .event-part), k .p-is, k .q-is, k .whole, s .pre .1 .1 .1 .1 .1, s .good)),
     )
 
--- src/walk.rt:134:29
 branch-enum-known-verdict : (t : ℕ) → branch-lts.Need-enum-known-verdict (branch-claims t) (branch-at t) branch.Post
 branch-enum-known-verdict t c = search needs
 
--- src/walk.rt:135:9
 branch-refused-requires : (t : ℕ) → branch-lts.Need-refused-requires (branch-claims t) (branch-at t) branch.Post
 branch-refused-requires t c κs = tt
 
--- src/walk.rt:135:9
 branch-returns : (t : ℕ) → branch-lts.Need-returns (branch-claims t) (branch-at t) branch.Post
 branch-returns t c =
-    λ t h.
+    λ x h.
     let s = c .before .before .before .before .before .before .before .before .before .before in
     let g = setting (s .args .n) (s .args .unroll) in
-    let k = branch-cut (s .args .words .now) t h (s .pre .1 .1 .0) (c .before .before .before .before .before .before .before .event-end .result) (c .before .before .before .before .before .before .before .event-end .ensures) (c .before .before .before .before .before .before .list-end .result) (c .before .before .before .before .before .before .list-end .ensures) in
+    let k = branch-parts t (c .before .before .before .before .before .before) x h in
     let o = c .before .before .before .before .sides .ensures (s .args .unroll) (k .event) (k .event-part) in
     let j = walks.if-unsplit g (s .args .base) k (s .args .state) (c .before .before .before .before .sides .result) o (s .args .marks .now) (c .before .before .verdict .given .1) in
     record { out = c .refused .ensures ∙ j .out; marks = j .marks }
@@ -313,68 +298,32 @@ branch-returns t c =
 branch-enum-told : (t : ℕ) → branch-lts.Need-enum-told (branch-claims t) (branch-at t) branch.Post
 branch-enum-told t c = search needs
 
--- src/walk.rt:139:17
 branch-add-mark : (t : ℕ) → branch-lts.Need-add-mark (branch-claims t) (branch-at t) branch.Post
-branch-add-mark t c =
-    let s = c .before .before .before .before .before .before .before .before .before .before .before in
-    let p = s .pre .1 .0 in
-    let k = branch-cut (s .args .words .now) (p .tree) (p .is) (s .pre .1 .1 .0) (c .before .before .before .before .before .before .before .before .event-end .result) (c .before .before .before .before .before .before .before .before .event-end .ensures) (c .before .before .before .before .before .before .before .list-end .result) (c .before .before .before .before .before .before .before .list-end .ensures) in
-    omega (arith, k .some, k .p-is, k .q-is, k .whole, s .good .0 .0, s .good .0 .1, s .pre .1 .1 .1 .1 .1)
+branch-add-mark t c = omega (arith, branch-room t (c .before .before .before .before .before .before .before))
 
--- src/walk.rt:139:5
 branch-mark-requires : (t : ℕ) → branch-lts.Need-mark-requires (branch-claims t) (branch-at t) branch.Post
-branch-mark-requires t c κs =
-    let s = c .before .before .before .before .before .before .before .before .before .before .before in
-    let p = s .pre .1 .0 in
-    let k = branch-cut (s .args .words .now) (p .tree) (p .is) (s .pre .1 .1 .0) (c .before .before .before .before .before .before .before .before .event-end .result) (c .before .before .before .before .before .before .before .before .event-end .ensures) (c .before .before .before .before .before .before .before .list-end .result) (c .before .before .before .before .before .before .before .list-end .ensures) in
-    omega (arith, k .some, k .p-is, k .q-is, k .whole, s .pre .1 .1 .1 .1 .1)
+branch-mark-requires t c κs = omega (arith, branch-room t (c .before .before .before .before .before .before .before))
 
--- src/walk.rt:140:18
 branch-mul-list : (t : ℕ) → branch-lts.Need-mul-list (branch-claims t) (branch-at t) branch.Post
-branch-mul-list t c =
-    let s = c .before .before .before .before .before .before .before .before .before .before .before .before .before .before in
-    let p = s .pre .1 .0 in
-    let k = branch-cut (s .args .words .now) (p .tree) (p .is) (s .pre .1 .1 .0) (c .before .before .before .before .before .before .before .before .before .before .before .event-end .result) (c .before .before .before .before .before .before .before .before .before .before .before .event-end .ensures) (c .before .before .before .before .before .before .before .before .before .before .list-end .result) (c .before .before .before .before .before .before .before .before .before .before .list-end .ensures) in
-    omega (arith, k .some, k .p-is, k .q-is, k .whole, s .good .0 .0, s .good .0 .1, s .pre .1 .1 .1 .1 .1)
+branch-mul-list t c = omega (arith, branch-room t (c .before .before .before .before .before .before .before .before .before .before))
 
--- src/walk.rt:140:18
 branch-sub-list : (t : ℕ) → branch-lts.Need-sub-list (branch-claims t) (branch-at t) branch.Post
-branch-sub-list t c =
-    let s = c .before .before .before .before .before .before .before .before .before .before .before .before .before .before in
-    let p = s .pre .1 .0 in
-    let k = branch-cut (s .args .words .now) (p .tree) (p .is) (s .pre .1 .1 .0) (c .before .before .before .before .before .before .before .before .before .before .before .event-end .result) (c .before .before .before .before .before .before .before .before .before .before .before .event-end .ensures) (c .before .before .before .before .before .before .before .before .before .before .list-end .result) (c .before .before .before .before .before .before .before .before .before .before .list-end .ensures) in
-    omega (arith, k .some, k .p-is, k .q-is, k .whole, s .good .0 .0, s .good .0 .1, s .pre .1 .1 .1 .1 .1)
+branch-sub-list t c = omega (arith, branch-room t (c .before .before .before .before .before .before .before .before .before .before))
 
--- src/walk.rt:140:18
 branch-part-list-start : (t : ℕ) → branch-lts.Need-part-list-start (branch-claims t) (branch-at t) branch.Post
-branch-part-list-start t c =
-    let s = c .before .before .before .before .before .before .before .before .before .before .before .before .before .before in
-    let p = s .pre .1 .0 in
-    let k = branch-cut (s .args .words .now) (p .tree) (p .is) (s .pre .1 .1 .0) (c .before .before .before .before .before .before .before .before .before .before .before .event-end .result) (c .before .before .before .before .before .before .before .before .before .before .before .event-end .ensures) (c .before .before .before .before .before .before .before .before .before .before .list-end .result) (c .before .before .before .before .before .before .before .before .before .before .list-end .ensures) in
-    omega (arith, k .some, k .p-is, k .q-is, k .whole, s .good .0 .0, s .good .0 .1, s .pre .1 .1 .1 .1 .1)
+branch-part-list-start t c = omega (arith, branch-room t (c .before .before .before .before .before .before .before .before .before .before))
 
--- src/walk.rt:140:18
 branch-part-list-end : (t : ℕ) → branch-lts.Need-part-list-end (branch-claims t) (branch-at t) branch.Post
-branch-part-list-end t c =
-    let s = c .before .before .before .before .before .before .before .before .before .before .before .before .before .before in
-    let p = s .pre .1 .0 in
-    let k = branch-cut (s .args .words .now) (p .tree) (p .is) (s .pre .1 .1 .0) (c .before .before .before .before .before .before .before .before .before .before .before .event-end .result) (c .before .before .before .before .before .before .before .before .before .before .before .event-end .ensures) (c .before .before .before .before .before .before .before .before .before .before .list-end .result) (c .before .before .before .before .before .before .before .before .before .before .list-end .ensures) in
-    omega (arith, k .some, k .p-is, k .q-is, k .whole, s .good .0 .0, s .good .0 .1, s .pre .1 .1 .1 .1 .1)
+branch-part-list-end t c = omega (arith, branch-room t (c .before .before .before .before .before .before .before .before .before .before))
 
--- src/walk.rt:140:43
 branch-add-list : (t : ℕ) → branch-lts.Need-add-list (branch-claims t) (branch-at t) branch.Post
-branch-add-list t c =
-    let s = c .before .before .before .before .before .before .before .before .before .before .before .before .before .before .before in
-    let p = s .pre .1 .0 in
-    let k = branch-cut (s .args .words .now) (p .tree) (p .is) (s .pre .1 .1 .0) (c .before .before .before .before .before .before .before .before .before .before .before .before .event-end .result) (c .before .before .before .before .before .before .before .before .before .before .before .before .event-end .ensures) (c .before .before .before .before .before .before .before .before .before .before .before .list-end .result) (c .before .before .before .before .before .before .before .before .before .before .before .list-end .ensures) in
-    omega (arith, k .some, k .p-is, k .q-is, k .whole, s .good .0 .0, s .good .0 .1, s .pre .1 .1 .1 .1 .1)
+branch-add-list t c = omega (arith, branch-room t (c .before .before .before .before .before .before .before .before .before .before .before))
 
--- src/walk.rt:140:9
 branch-list-requires : (t : ℕ) → branch-lts.Need-list-requires (branch-claims t) (branch-at t) branch.Post
 branch-list-requires t c κs =
     let s = c .before .before .before .before .before .before .before .before .before .before .before .before .before .before .before .before in
     let p = s .pre .1 .0 in
-    let k = branch-cut (s .args .words .now) (p .tree) (p .is) (s .pre .1 .1 .0) (c .before .before .before .before .before .before .before .before .before .before .before .before .before .event-end .result) (c .before .before .before .before .before .before .before .before .before .before .before .before .before .event-end .ensures) (c .before .before .before .before .before .before .before .before .before .before .before .before .list-end .result) (c .before .before .before .before .before .before .before .before .before .before .before .before .list-end .ensures) in (
+    let k = branch-parts t (c .before .before .before .before .before .before .before .before .before .before .before .before) (p .tree) (p .is) in (
       omega (arith, ap length (k .then-part), k .some, k .p-is, k .q-is, k .whole, s .pre .0),
       (
         record { tree = k .then-list; is = k .then-part; within = branch-bounds (k .same) (p .within) .1 },
@@ -382,21 +331,18 @@ branch-list-requires t c κs =
       ),
     )
 
--- src/walk.rt:143:9
 branch-enum-told-2 : (t : ℕ) → branch-lts.Need-enum-told-2 (branch-claims t) (branch-at t) branch.Post
 branch-enum-told-2 t c = search needs
 
--- src/walk.rt:143:9
 branch-same-length : (t : ℕ) → branch-lts.Need-same-length (branch-claims t) (branch-at t) branch.Post
 branch-same-length t c = c .before .before .before .before .list .kept .1 .1 .1 .1 .1 .0 ∙ c .before .before .before .before .before .before .before .before .before .mark .kept .0
 
--- src/walk.rt:143:9
 branch-returns-2 : (t : ℕ) → branch-lts.Need-returns-2 (branch-claims t) (branch-at t) branch.Post
 branch-returns-2 t c =
-    λ t h.
+    λ x h.
     let s = c .before .before .before .before .before .before .before .before .before .before .before .before .before .before .before .before .before .before .before .before .before in
     let g = setting (s .args .n) (s .args .unroll) in
-    let k = branch-cut (s .args .words .now) t h (s .pre .1 .1 .0) (c .before .before .before .before .before .before .before .before .before .before .before .before .before .before .before .before .before .before .event-end .result) (c .before .before .before .before .before .before .before .before .before .before .before .before .before .before .before .before .before .before .event-end .ensures) (c .before .before .before .before .before .before .before .before .before .before .before .before .before .before .before .before .before .list-end .result) (c .before .before .before .before .before .before .before .before .before .before .before .before .before .before .before .before .before .list-end .ensures) in
+    let k = branch-parts t (c .before .before .before .before .before .before .before .before .before .before .before .before .before .before .before .before .before) x h in
     let o = c .before .before .before .before .before .before .before .before .before .before .before .before .before .before .before .sides .ensures (s .args .unroll) (k .event) (k .event-part) in
     let w = c .before .before .before .before .list .ensures (k .then-list) (k .then-part) in
     walks.if-then-refused g (s .args .base) k (s .args .state) (c .before .before .before .before .before .before .before .before .before .before .before .before .before .before .before .sides .result) o (s .args .marks .now) (c .before .before .before .before .before .before .before .before .before .before .before .before .before .enum-told .given .1) (c .before .before .before .before .before .before .before .before .before .mark .ensures) w (c .enum-told2 .given .1)
@@ -404,68 +350,36 @@ branch-returns-2 t c =
 branch-enum-told-3 : (t : ℕ) → branch-lts.Need-enum-told-3 (branch-claims t) (branch-at t) branch.Post
 branch-enum-told-3 t c = search needs
 
--- src/walk.rt:145:17
 branch-add-mark-2 : (t : ℕ) → branch-lts.Need-add-mark-2 (branch-claims t) (branch-at t) branch.Post
-branch-add-mark-2 t c =
-    let s = c .before .before .before .before .before .before .before .before .before .before .before .before .before .before .before .before .before .before .before .before .before .before in
-    let p = s .pre .1 .0 in
-    let k = branch-cut (s .args .words .now) (p .tree) (p .is) (s .pre .1 .1 .0) (c .before .before .before .before .before .before .before .before .before .before .before .before .before .before .before .before .before .before .before .event-end .result) (c .before .before .before .before .before .before .before .before .before .before .before .before .before .before .before .before .before .before .before .event-end .ensures) (c .before .before .before .before .before .before .before .before .before .before .before .before .before .before .before .before .before .before .list-end .result) (c .before .before .before .before .before .before .before .before .before .before .before .before .before .before .before .before .before .before .list-end .ensures) in
-    omega (arith, k .some, k .p-is, k .q-is, k .whole, s .good .0 .0, s .good .0 .1, s .pre .1 .1 .1 .1 .1)
+branch-add-mark-2 t c = omega (arith, branch-room t (c .before .before .before .before .before .before .before .before .before .before .before .before .before .before .before .before .before .before))
 
--- src/walk.rt:145:5
 branch-mark-requires-2 : (t : ℕ) → branch-lts.Need-mark-requires-2 (branch-claims t) (branch-at t) branch.Post
 branch-mark-requires-2 t c κs =
     let s = c .before .before .before .before .before .before .before .before .before .before .before .before .before .before .before .before .before .before .before .before .before .before in
     let p = s .pre .1 .0 in
-    let k = branch-cut (s .args .words .now) (p .tree) (p .is) (s .pre .1 .1 .0) (c .before .before .before .before .before .before .before .before .before .before .before .before .before .before .before .before .before .before .before .event-end .result) (c .before .before .before .before .before .before .before .before .before .before .before .before .before .before .before .before .before .before .before .event-end .ensures) (c .before .before .before .before .before .before .before .before .before .before .before .before .before .before .before .before .before .before .list-end .result) (c .before .before .before .before .before .before .before .before .before .before .before .before .before .before .before .before .before .before .list-end .ensures) in
+    let k = branch-parts t (c .before .before .before .before .before .before .before .before .before .before .before .before .before .before .before .before .before .before) (p .tree) (p .is) in
     omega (arith, k .some, k .p-is, k .q-is, k .whole, s .pre .1 .1 .1 .1 .1, c .before .before .before .before .before .before .before .before .before .before .mark .kept .0, c .before .before .before .before .before .list .kept .1 .1 .1 .1 .1 .0)
 
--- src/walk.rt:146:18
 branch-mul-list-2 : (t : ℕ) → branch-lts.Need-mul-list-2 (branch-claims t) (branch-at t) branch.Post
-branch-mul-list-2 t c =
-    let s = c .before .before .before .before .before .before .before .before .before .before .before .before .before .before .before .before .before .before .before .before .before .before .before .before .before in
-    let p = s .pre .1 .0 in
-    let k = branch-cut (s .args .words .now) (p .tree) (p .is) (s .pre .1 .1 .0) (c .before .before .before .before .before .before .before .before .before .before .before .before .before .before .before .before .before .before .before .before .before .before .event-end .result) (c .before .before .before .before .before .before .before .before .before .before .before .before .before .before .before .before .before .before .before .before .before .before .event-end .ensures) (c .before .before .before .before .before .before .before .before .before .before .before .before .before .before .before .before .before .before .before .before .before .list-end .result) (c .before .before .before .before .before .before .before .before .before .before .before .before .before .before .before .before .before .before .before .before .before .list-end .ensures) in
-    omega (arith, k .some, k .p-is, k .q-is, k .whole, s .good .0 .0, s .good .0 .1, s .pre .1 .1 .1 .1 .1)
+branch-mul-list-2 t c = omega (arith, branch-room t (c .before .before .before .before .before .before .before .before .before .before .before .before .before .before .before .before .before .before .before .before .before))
 
--- src/walk.rt:146:18
 branch-sub-list-2 : (t : ℕ) → branch-lts.Need-sub-list-2 (branch-claims t) (branch-at t) branch.Post
-branch-sub-list-2 t c =
-    let s = c .before .before .before .before .before .before .before .before .before .before .before .before .before .before .before .before .before .before .before .before .before .before .before .before .before in
-    let p = s .pre .1 .0 in
-    let k = branch-cut (s .args .words .now) (p .tree) (p .is) (s .pre .1 .1 .0) (c .before .before .before .before .before .before .before .before .before .before .before .before .before .before .before .before .before .before .before .before .before .before .event-end .result) (c .before .before .before .before .before .before .before .before .before .before .before .before .before .before .before .before .before .before .before .before .before .before .event-end .ensures) (c .before .before .before .before .before .before .before .before .before .before .before .before .before .before .before .before .before .before .before .before .before .list-end .result) (c .before .before .before .before .before .before .before .before .before .before .before .before .before .before .before .before .before .before .before .before .before .list-end .ensures) in
-    omega (arith, k .some, k .p-is, k .q-is, k .whole, s .good .0 .0, s .good .0 .1, s .pre .1 .1 .1 .1 .1)
+branch-sub-list-2 t c = omega (arith, branch-room t (c .before .before .before .before .before .before .before .before .before .before .before .before .before .before .before .before .before .before .before .before .before))
 
--- src/walk.rt:146:18
 branch-part-list-start-2 : (t : ℕ) → branch-lts.Need-part-list-start-2 (branch-claims t) (branch-at t) branch.Post
-branch-part-list-start-2 t c =
-    let s = c .before .before .before .before .before .before .before .before .before .before .before .before .before .before .before .before .before .before .before .before .before .before .before .before .before in
-    let p = s .pre .1 .0 in
-    let k = branch-cut (s .args .words .now) (p .tree) (p .is) (s .pre .1 .1 .0) (c .before .before .before .before .before .before .before .before .before .before .before .before .before .before .before .before .before .before .before .before .before .before .event-end .result) (c .before .before .before .before .before .before .before .before .before .before .before .before .before .before .before .before .before .before .before .before .before .before .event-end .ensures) (c .before .before .before .before .before .before .before .before .before .before .before .before .before .before .before .before .before .before .before .before .before .list-end .result) (c .before .before .before .before .before .before .before .before .before .before .before .before .before .before .before .before .before .before .before .before .before .list-end .ensures) in
-    omega (arith, k .some, k .p-is, k .q-is, k .whole, s .good .0 .0, s .good .0 .1, s .pre .1 .1 .1 .1 .1)
+branch-part-list-start-2 t c = omega (arith, branch-room t (c .before .before .before .before .before .before .before .before .before .before .before .before .before .before .before .before .before .before .before .before .before))
 
--- src/walk.rt:146:18
 branch-part-list-end-2 : (t : ℕ) → branch-lts.Need-part-list-end-2 (branch-claims t) (branch-at t) branch.Post
-branch-part-list-end-2 t c =
-    let s = c .before .before .before .before .before .before .before .before .before .before .before .before .before .before .before .before .before .before .before .before .before .before .before .before .before in
-    let p = s .pre .1 .0 in
-    let k = branch-cut (s .args .words .now) (p .tree) (p .is) (s .pre .1 .1 .0) (c .before .before .before .before .before .before .before .before .before .before .before .before .before .before .before .before .before .before .before .before .before .before .event-end .result) (c .before .before .before .before .before .before .before .before .before .before .before .before .before .before .before .before .before .before .before .before .before .before .event-end .ensures) (c .before .before .before .before .before .before .before .before .before .before .before .before .before .before .before .before .before .before .before .before .before .list-end .result) (c .before .before .before .before .before .before .before .before .before .before .before .before .before .before .before .before .before .before .before .before .before .list-end .ensures) in
-    omega (arith, k .some, k .p-is, k .q-is, k .whole, s .good .0 .0, s .good .0 .1, s .pre .1 .1 .1 .1 .1)
+branch-part-list-end-2 t c = omega (arith, branch-room t (c .before .before .before .before .before .before .before .before .before .before .before .before .before .before .before .before .before .before .before .before .before))
 
--- src/walk.rt:146:39
 branch-add-list-2 : (t : ℕ) → branch-lts.Need-add-list-2 (branch-claims t) (branch-at t) branch.Post
-branch-add-list-2 t c =
-    let s = c .before .before .before .before .before .before .before .before .before .before .before .before .before .before .before .before .before .before .before .before .before .before .before .before .before .before in
-    let p = s .pre .1 .0 in
-    let k = branch-cut (s .args .words .now) (p .tree) (p .is) (s .pre .1 .1 .0) (c .before .before .before .before .before .before .before .before .before .before .before .before .before .before .before .before .before .before .before .before .before .before .before .event-end .result) (c .before .before .before .before .before .before .before .before .before .before .before .before .before .before .before .before .before .before .before .before .before .before .before .event-end .ensures) (c .before .before .before .before .before .before .before .before .before .before .before .before .before .before .before .before .before .before .before .before .before .before .list-end .result) (c .before .before .before .before .before .before .before .before .before .before .before .before .before .before .before .before .before .before .before .before .before .before .list-end .ensures) in
-    omega (arith, k .some, k .p-is, k .q-is, k .whole, s .good .0 .0, s .good .0 .1, s .pre .1 .1 .1 .1 .1)
+branch-add-list-2 t c = omega (arith, branch-room t (c .before .before .before .before .before .before .before .before .before .before .before .before .before .before .before .before .before .before .before .before .before .before))
 
--- src/walk.rt:146:9
 branch-list-requires-2 : (t : ℕ) → branch-lts.Need-list-requires-2 (branch-claims t) (branch-at t) branch.Post
 branch-list-requires-2 t c κs =
     let s = c .before .before .before .before .before .before .before .before .before .before .before .before .before .before .before .before .before .before .before .before .before .before .before .before .before .before .before in
     let p = s .pre .1 .0 in
-    let k = branch-cut (s .args .words .now) (p .tree) (p .is) (s .pre .1 .1 .0) (c .before .before .before .before .before .before .before .before .before .before .before .before .before .before .before .before .before .before .before .before .before .before .before .before .event-end .result) (c .before .before .before .before .before .before .before .before .before .before .before .before .before .before .before .before .before .before .before .before .before .before .before .before .event-end .ensures) (c .before .before .before .before .before .before .before .before .before .before .before .before .before .before .before .before .before .before .before .before .before .before .before .list-end .result) (c .before .before .before .before .before .before .before .before .before .before .before .before .before .before .before .before .before .before .before .before .before .before .before .list-end .ensures) in (
+    let k = branch-parts t (c .before .before .before .before .before .before .before .before .before .before .before .before .before .before .before .before .before .before .before .before .before .before .before) (p .tree) (p .is) in (
       omega (arith, ap length (k .else-part), k .some, k .p-is, k .q-is, k .whole, s .pre .0),
       (
         record { tree = k .else-list; is = k .else-part; within = branch-bounds (k .same) (p .within) .2 },
@@ -473,21 +387,18 @@ branch-list-requires-2 t c κs =
       ),
     )
 
--- src/walk.rt:149:9
 branch-enum-told-4 : (t : ℕ) → branch-lts.Need-enum-told-4 (branch-claims t) (branch-at t) branch.Post
 branch-enum-told-4 t c = search needs
 
--- src/walk.rt:149:9
 branch-same-length-2 : (t : ℕ) → branch-lts.Need-same-length-2 (branch-claims t) (branch-at t) branch.Post
 branch-same-length-2 t c = c .before .before .before .before .list2 .kept .1 .1 .1 .1 .1 .0 ∙ c .before .before .before .before .before .before .before .before .before .mark2 .kept .0 ∙ c .before .before .before .before .before .before .before .before .before .before .before .before .before .before .before .list .kept .1 .1 .1 .1 .1 .0 ∙ c .before .before .before .before .before .before .before .before .before .before .before .before .before .before .before .before .before .before .before .before .mark .kept .0
 
--- src/walk.rt:149:9
 branch-returns-3 : (t : ℕ) → branch-lts.Need-returns-3 (branch-claims t) (branch-at t) branch.Post
 branch-returns-3 t c =
-    λ t h.
+    λ x h.
     let s = c .before .before .before .before .before .before .before .before .before .before .before .before .before .before .before .before .before .before .before .before .before .before .before .before .before .before .before .before .before .before .before .before in
     let g = setting (s .args .n) (s .args .unroll) in
-    let k = branch-cut (s .args .words .now) t h (s .pre .1 .1 .0) (c .before .before .before .before .before .before .before .before .before .before .before .before .before .before .before .before .before .before .before .before .before .before .before .before .before .before .before .before .before .event-end .result) (c .before .before .before .before .before .before .before .before .before .before .before .before .before .before .before .before .before .before .before .before .before .before .before .before .before .before .before .before .before .event-end .ensures) (c .before .before .before .before .before .before .before .before .before .before .before .before .before .before .before .before .before .before .before .before .before .before .before .before .before .before .before .before .list-end .result) (c .before .before .before .before .before .before .before .before .before .before .before .before .before .before .before .before .before .before .before .before .before .before .before .before .before .before .before .before .list-end .ensures) in
+    let k = branch-parts t (c .before .before .before .before .before .before .before .before .before .before .before .before .before .before .before .before .before .before .before .before .before .before .before .before .before .before .before .before) x h in
     let o = c .before .before .before .before .before .before .before .before .before .before .before .before .before .before .before .before .before .before .before .before .before .before .before .before .before .before .sides .ensures (s .args .unroll) (k .event) (k .event-part) in
     let w = c .before .before .before .before .before .before .before .before .before .before .before .before .before .before .before .list .ensures (k .then-list) (k .then-part) in
     let v = c .before .before .before .before .list2 .ensures (k .else-list) (k .else-part) in
@@ -496,25 +407,21 @@ branch-returns-3 t c =
 branch-enum-told-5 : (t : ℕ) → branch-lts.Need-enum-told-5 (branch-claims t) (branch-at t) branch.Post
 branch-enum-told-5 t c = search needs
 
--- src/walk.rt:153:9
 branch-join-requires : (t : ℕ) → branch-lts.Need-join-requires (branch-claims t) (branch-at t) branch.Post
 branch-join-requires t c κs = tt
 
--- src/walk.rt:154:5
 branch-good-requires : (t : ℕ) → branch-lts.Need-good-requires (branch-claims t) (branch-at t) branch.Post
 branch-good-requires t c κs = tt
 
--- src/walk.rt:122:1
 branch-same-length-3 : (t : ℕ) → branch-lts.Need-same-length-3 (branch-claims t) (branch-at t) branch.Post
 branch-same-length-3 t c = c .before .before .before .before .before .before .before .before .list2 .kept .1 .1 .1 .1 .1 .0 ∙ c .before .before .before .before .before .before .before .before .before .before .before .before .before .mark2 .kept .0 ∙ c .before .before .before .before .before .before .before .before .before .before .before .before .before .before .before .before .before .before .before .list .kept .1 .1 .1 .1 .1 .0 ∙ c .before .before .before .before .before .before .before .before .before .before .before .before .before .before .before .before .before .before .before .before .before .before .before .before .mark .kept .0
 
--- src/walk.rt:122:1
 branch-returns-4 : (t : ℕ) → branch-lts.Need-returns-4 (branch-claims t) (branch-at t) branch.Post
 branch-returns-4 t c =
-    λ t h.
+    λ x h.
     let s = c .before .before .before .before .before .before .before .before .before .before .before .before .before .before .before .before .before .before .before .before .before .before .before .before .before .before .before .before .before .before .before .before .before .before .before .before in
     let g = setting (s .args .n) (s .args .unroll) in
-    let k = branch-cut (s .args .words .now) t h (s .pre .1 .1 .0) (c .before .before .before .before .before .before .before .before .before .before .before .before .before .before .before .before .before .before .before .before .before .before .before .before .before .before .before .before .before .before .before .before .before .event-end .result) (c .before .before .before .before .before .before .before .before .before .before .before .before .before .before .before .before .before .before .before .before .before .before .before .before .before .before .before .before .before .before .before .before .before .event-end .ensures) (c .before .before .before .before .before .before .before .before .before .before .before .before .before .before .before .before .before .before .before .before .before .before .before .before .before .before .before .before .before .before .before .before .list-end .result) (c .before .before .before .before .before .before .before .before .before .before .before .before .before .before .before .before .before .before .before .before .before .before .before .before .before .before .before .before .before .before .before .before .list-end .ensures) in
+    let k = branch-parts t (c .before .before .before .before .before .before .before .before .before .before .before .before .before .before .before .before .before .before .before .before .before .before .before .before .before .before .before .before .before .before .before .before) x h in
     let o = c .before .before .before .before .before .before .before .before .before .before .before .before .before .before .before .before .before .before .before .before .before .before .before .before .before .before .before .before .before .before .sides .ensures (s .args .unroll) (k .event) (k .event-part) in
     let w = c .before .before .before .before .before .before .before .before .before .before .before .before .before .before .before .before .before .before .before .list .ensures (k .then-list) (k .then-part) in
     let v = c .before .before .before .before .before .before .before .before .list2 .ensures (k .else-list) (k .else-part) in
@@ -529,29 +436,23 @@ growing-Inv-loop words base n unroll widening most marks₀ s₀ i₀ marks s i 
 abbrev growing-μ-loop : growing-lts.MeasureT-loop
 growing-μ-loop words base n unroll widening most marks₀ s₀ i₀ marks s i = most - i
 
--- src/walk.rt:264:5
 growing-loop-holds : (t : ℕ) → growing-lts.Need-loop-holds (growing-claims t) (growing-at t) growing.Post growing-Inv-loop growing-μ-loop
 growing-loop-holds t c = (omega arith, (refl, λ u e b h. let z : c .before .before .args .most - 0 ≡ c .before .before .args .most = omega arith in rw z leads-self))
 
--- src/walk.rt:265:13
 growing-pass-requires : (t : ℕ) → growing-lts.Need-pass-requires (growing-claims t) (growing-at t) growing.Post growing-Inv-loop growing-μ-loop
 growing-pass-requires t c κs =
     let s = c .before .before .before .before .before in
     (omega (arith, s .pre .0), (s .pre .1 .0, (s .pre .1 .1 .0, (s .pre .1 .1 .1 .0, omega (arith, s .pre .1 .1 .1 .1, c .before .before .loop .inv .1 .0)))))
 
--- src/walk.rt:267:33
 growing-enum-known-verdict : (t : ℕ) → growing-lts.Need-enum-known-verdict (growing-claims t) (growing-at t) growing.Post growing-Inv-loop growing-μ-loop
 growing-enum-known-verdict t c = search needs
 
--- src/walk.rt:268:13
 growing-unsettled-requires : (t : ℕ) → growing-lts.Need-unsettled-requires (growing-claims t) (growing-at t) growing.Post growing-Inv-loop growing-μ-loop
 growing-unsettled-requires t c κs = tt
 
--- src/walk.rt:268:13
 growing-same-length : (t : ℕ) → growing-lts.Need-same-length (growing-claims t) (growing-at t) growing.Post growing-Inv-loop growing-μ-loop
 growing-same-length t c = c .before .before .before .before .before .before .pass .kept .1 .1 .1 .1 .1 .0 ∙ c .before .before .before .before .before .before .before .before .before .loop .inv .1 .0
 
--- src/walk.rt:268:13
 growing-returns : (t : ℕ) → growing-lts.Need-returns (growing-claims t) (growing-at t) growing.Post growing-Inv-loop growing-μ-loop
 growing-returns t c =
     λ u e b h.
@@ -566,23 +467,18 @@ growing-returns t c =
 growing-enum-told : (t : ℕ) → growing-lts.Need-enum-told (growing-claims t) (growing-at t) growing.Post growing-Inv-loop growing-μ-loop
 growing-enum-told t c = search needs
 
--- src/walk.rt:271:9
 growing-add-i : (t : ℕ) → growing-lts.Need-add-i (growing-claims t) (growing-at t) growing.Post growing-Inv-loop growing-μ-loop
 growing-add-i t c = omega (arith, c .before .before .before .before .before .before .before .loop-test .taken, c .before .before .before .before .before .before .before .before .before .before .before .fits .most)
 
--- src/walk.rt:272:12
 growing-within-requires : (t : ℕ) → growing-lts.Need-within-requires (growing-claims t) (growing-at t) growing.Post growing-Inv-loop growing-μ-loop
 growing-within-requires t c κs = tt
 
--- src/walk.rt:273:13
 growing-grown-requires : (t : ℕ) → growing-lts.Need-grown-requires (growing-claims t) (growing-at t) growing.Post growing-Inv-loop growing-μ-loop
 growing-grown-requires t c κs = tt
 
--- src/walk.rt:273:13
 growing-same-length-2 : (t : ℕ) → growing-lts.Need-same-length-2 (growing-claims t) (growing-at t) growing.Post growing-Inv-loop growing-μ-loop
 growing-same-length-2 t c = c .before .before .before .before .before .before .before .before .pass .kept .1 .1 .1 .1 .1 .0 ∙ c .before .before .before .before .before .before .before .before .before .before .before .loop .inv .1 .0
 
--- src/walk.rt:273:13
 growing-returns-2 : (t : ℕ) → growing-lts.Need-returns-2 (growing-claims t) (growing-at t) growing.Post growing-Inv-loop growing-μ-loop
 growing-returns-2 t c =
     λ u e b h.
@@ -594,15 +490,12 @@ growing-returns-2 t c =
     let more : s .args .most - l .i ≡ suc (s .args .most - (l .i + 1)) = omega (arith, c .before .before .before .before .before .before .before .before .before .before .loop-test .taken) in
     rw (c .grown .ensures) (l .inv .1 .1 u e b h .on _ _ (turns-laws.growing-settled g (s .args .base) e b (s .args .most - l .i) (s .args .most - (l .i + 1)) more (l .s) q by (l .i) (c .before .before .before .before .enum-told .given .1) (sym (c .before .before .within .ensures) ∙ c .before .if1 .taken)))
 
--- src/walk.rt:275:9
 growing-grow-requires : (t : ℕ) → growing-lts.Need-grow-requires (growing-claims t) (growing-at t) growing.Post growing-Inv-loop growing-μ-loop
 growing-grow-requires t c κs = tt
 
--- src/walk.rt:264:5
 growing-loop-less : (t : ℕ) → growing-lts.Need-loop-less (growing-claims t) (growing-at t) growing.Post growing-Inv-loop growing-μ-loop
 growing-loop-less t c = omega (arith, c .before .before .before .before .before .before .before .before .before .before .loop-test .taken)
 
--- src/walk.rt:264:5
 growing-loop-again : (t : ℕ) → growing-lts.Need-loop-again (growing-claims t) (growing-at t) growing.Post growing-Inv-loop growing-μ-loop
 growing-loop-again t c = (
   omega (arith, c .before .before .before .before .before .before .before .before .before .before .loop-test .taken),
@@ -619,15 +512,12 @@ growing-loop-again t c = (
   ),
 )
 
--- src/walk.rt:277:5
 growing-grown-requires-2 : (t : ℕ) → growing-lts.Need-grown-requires-2 (growing-claims t) (growing-at t) growing.Post growing-Inv-loop growing-μ-loop
 growing-grown-requires-2 t c κs = tt
 
--- src/walk.rt:246:1
 growing-same-length-3 : (t : ℕ) → growing-lts.Need-same-length-3 (growing-claims t) (growing-at t) growing.Post growing-Inv-loop growing-μ-loop
 growing-same-length-3 t c = c .before .before .loop .inv .1 .0
 
--- src/walk.rt:246:1
 growing-returns-3 : (t : ℕ) → growing-lts.Need-returns-3 (growing-claims t) (growing-at t) growing.Post growing-Inv-loop growing-μ-loop
 growing-returns-3 t c =
     λ u e b h.
@@ -644,19 +534,81 @@ list-Inv-loop words base n unroll marks₀ s₀ left₀ at₀ marks s left at = 
 abbrev list-μ-loop : list-lts.MeasureT-loop
 list-μ-loop words base n unroll marks₀ s₀ left₀ at₀ marks s left at = left
 
--- src/walk.rt:54:20
+-- where the next statement of a list stands, within the words and the marks
+list-room : (t : ℕ) (c : list-lts.After-statement-end (list-claims t) (list-at t) list.Post list-Inv-loop list-μ-loop) →
+    (c .before .before .loop .at < c .statement-end .result) × ((c .statement-end .result ≤ length (c .before .before .before .before .before .before .args .words .now)) ×
+    (Room (c .before .before .before .before .before .before .args .base) (c .before .before .before .before .before .before .args .words .now) (c .before .before .before .before .before .before .args .marks .now)))
+list-room t c =
+    let s = c .before .before .before .before .before .before in
+    let p = s .pre .1 .0 in
+    let G = c .before .before .loop .inv .1 .1 .1 (p .tree) (p .is) in
+    let some = c .before .loop-test .taken in
+    let x = walks.going-next G some in
+    let e = c .statement-end .ensures (x .head) (x .head-is) in
+    (omega (arith, e, statement-some (x .head)), (omega (arith, e, walks.going-inside G some), (s .pre .1 .1 .1 .1, (omega (arith, s .good .0 .0, s .good .0 .1), omega (arith, s .pre .1 .1 .1 .1, s .good)))))
+
+-- a plain statement has three words or more, and the variable that it changes is one of the 64
+list-long : (t : ℕ) (c : list-lts.Then1 (list-claims t) (list-at t) list.Post list-Inv-loop list-μ-loop) → c .before .before .before .before .loop .at + 3 ≤ c .before .before .statement-end .result
+list-long t c =
+    let s = c .before .before .before .before .before .before .before .before in
+    let p = s .pre .1 .0 in
+    let G = c .before .before .before .before .loop .inv .1 .1 .1 (p .tree) (p .is) in
+    let some = c .before .before .before .loop-test .taken in
+    let x = walks.going-next G some in
+    omega (arith, c .before .before .statement-end .ensures (x .head) (x .head-is), walks.going-long G some (c .if1 .taken))
+
+list-own : (t : ℕ) (c : list-lts.Then1 (list-claims t) (list-at t) list.Post list-Inv-loop list-μ-loop) → getD (c .before .before .before .before .before .before .before .before .args .words .now) (c .before .before .before .before .loop .at + 1) 0 < 64
+list-own t c =
+    let s = c .before .before .before .before .before .before .before .before in
+    let p = s .pre .1 .0 in
+    let G = c .before .before .before .before .loop .inv .1 .1 .1 (p .tree) (p .is) in
+    let some = c .before .before .before .loop-test .taken in
+    let x = walks.going-next G some in
+    let k = walks.kind-below (walks.going-kind G some) (c .if1 .taken) in
+    omega (arith, walks.going-own G some k, target-below (x .head) (walks.going-statement G some (p .within)) k, s .pre .1 .1 .0)
+
+-- and so is the one that it reads
+list-read : (t : ℕ) (c : list-lts.After-source (list-claims t) (list-at t) list.Post list-Inv-loop list-μ-loop) → c .source .result < 64
+list-read t c =
+    let s = c .before .before .before .before .before .before .before .before .before .before .before .before in
+    let p = s .pre .1 .0 in
+    let G = c .before .before .before .before .before .before .before .before .loop .inv .1 .1 .1 (p .tree) (p .is) in
+    let some = c .before .before .before .before .before .before .before .loop-test .taken in
+    let x = walks.going-next G some in
+    let k = walks.kind-below (walks.going-kind G some) (c .before .before .before .before .if1 .taken) in
+    let e = c .before .before .before .before .before .before .statement-end .ensures (x .head) (x .head-is) in
+    let f = c .source .ensures (x .head) (walks.going-part G some (c .before .before .before .before .before .before .statement-end .result) e) in
+    omega (arith, f, source-below (x .head) (walks.going-statement G some (p .within)) k, s .pre .1 .1 .0)
+
+-- the statement that is next, of a list that the words are
+abbrev list-next : (t : ℕ) (c : list-lts.After-statement-end (list-claims t) (list-at t) list.Post list-Inv-loop list-μ-loop) (tree : Statements) → c .before .before .before .before .before .before .args .words .now ≡ code.program tree → Statement
+list-next t c tree h = walks.going-next (c .before .before .loop .inv .1 .1 .1 tree h) (c .before .loop-test .taken) .head
+
+-- the range that it gives is the rules', from the ranges that the state has
+list-change : (t : ℕ) (c : list-lts.After-change (list-claims t) (list-at t) list.Post list-Inv-loop list-μ-loop) (tree : Statements) (h : c .before .before .before .before .before .before .before .before .before .before .before .before .before .before .before .before .args .words .now ≡ code.program tree) →
+    c .change .result ≡ plain.change (list-next t (c .before .before .before .before .before .before .before .before .before .before) tree h) (states.get (c .before .before .before .before .before .before .before .before .before .before .before .before .loop .s) (plain.target (list-next t (c .before .before .before .before .before .before .before .before .before .before) tree h))) (states.get (c .before .before .before .before .before .before .before .before .before .before .before .before .loop .s) (plain.source (list-next t (c .before .before .before .before .before .before .before .before .before .before) tree h)))
+list-change t c tree h =
+    let at = c .before .before .before .before .before .before .before .before .before .before .before .before .loop in
+    let G = at .inv .1 .1 .1 tree h in
+    let some = c .before .before .before .before .before .before .before .before .before .before .before .loop-test .taken in
+    let x = walks.going-next G some in
+    let f = walks.going-part G some (c .before .before .before .before .before .before .before .before .before .before .statement-end .result) (c .before .before .before .before .before .before .before .before .before .before .statement-end .ensures (x .head) (x .head-is)) in
+    let k = walks.kind-below (walks.going-kind G some) (c .before .before .before .before .before .before .before .before .if1 .taken) in
+    let own = there (at .s .cells) (getD (c .before .before .before .before .before .before .before .before .before .before .before .before .before .before .before .before .args .words .now) (at .at + 1) 0) _ (omega (arith, at .inv .1 .1 .0, list-own t (c .before .before .before .before .before .before .before .before))) in
+    let read = there (at .s .cells) (c .before .before .before .before .source .result) _ (omega (arith, at .inv .1 .1 .0, list-read t (c .before .before .before .before))) in
+    c .change .ensures (x .head) f ∙
+    walks.same-change (x .head) (ap (λ (z : Cell). z .range) own ∙ ap (λ (v : ℕ). states.get (at .s) v) (walks.going-own G some k)) (ap (λ (z : Cell). z .range) read ∙ ap (λ (v : ℕ). states.get (at .s) v) (c .before .before .before .before .source .ensures (x .head) f))
+
 list-shared-slice-read-left : (t : ℕ) → list-lts.Need-shared-slice-read-left (list-claims t) (list-at t) list.Post list-Inv-loop list-μ-loop
 list-shared-slice-read-left t c =
     let p = c .before .before .before .pre .1 .0 in
     omega (arith, ap length (p .is))
 
--- src/walk.rt:56:5
 list-loop-holds : (t : ℕ) → list-lts.Need-loop-holds (list-claims t) (list-at t) list.Post list-Inv-loop list-μ-loop
 list-loop-holds t c =
     let s = c .before .before .before in
     (omega arith, (refl, (state-long (s .args .state) (s .good .1 .1 .1 .1 .0), λ t h. walks.going-first (setting (s .args .n) (s .args .unroll)) (s .args .base) (s .args .words .now) (s .args .state) (s .args .marks .now) t h)))
 
--- src/walk.rt:58:9
 list-statement-end-requires : (t : ℕ) → list-lts.Need-statement-end-requires (list-claims t) (list-at t) list.Post list-Inv-loop list-μ-loop
 list-statement-end-requires t c κs =
     let s = c .before .before .before .before .before in
@@ -667,131 +619,36 @@ list-statement-end-requires t c κs =
     let x = walks.going-next G some in
     record { tree = x .head; is = x .head-is }
 
--- src/walk.rt:59:9
 list-sub-left : (t : ℕ) → list-lts.Need-sub-left (list-claims t) (list-at t) list.Post list-Inv-loop list-μ-loop
 list-sub-left t c = omega (arith, c .before .loop-test .taken)
 
--- src/walk.rt:60:12
 list-mul-if1 : (t : ℕ) → list-lts.Need-mul-if1 (list-claims t) (list-at t) list.Post list-Inv-loop list-μ-loop
-list-mul-if1 t c =
-    let s = c .before .before .before .before .before .before in
-    let p = s .pre .1 .0 in
-    let l = c .before .before .loop in
-    let G = l .inv .1 .1 .1 (p .tree) (p .is) in
-    let some = c .before .loop-test .taken in
-    let x = walks.going-next G some in
-    let e = c .statement-end .ensures (x .head) (x .head-is) in
-    let inside = walks.going-inside G some in
-    omega (arith, inside, statement-some (x .head), s .good .0 .0, s .good .0 .1, s .pre .1 .1 .1 .1)
+list-mul-if1 t c = omega (arith, list-room t c)
 
--- src/walk.rt:60:12
 list-shared-slice-read-if1 : (t : ℕ) → list-lts.Need-shared-slice-read-if1 (list-claims t) (list-at t) list.Post list-Inv-loop list-μ-loop
-list-shared-slice-read-if1 t c =
-    let s = c .before .before .before .before .before .before .before in
-    let p = s .pre .1 .0 in
-    let l = c .before .before .before .loop in
-    let G = l .inv .1 .1 .1 (p .tree) (p .is) in
-    let some = c .before .before .loop-test .taken in
-    let x = walks.going-next G some in
-    let e = c .before .statement-end .ensures (x .head) (x .head-is) in
-    let inside = walks.going-inside G some in
-    omega (arith, inside, statement-some (x .head), s .good .0 .0, s .good .0 .1, s .pre .1 .1 .1 .1)
+list-shared-slice-read-if1 t c = omega (arith, list-room t (c .before))
 
--- src/walk.rt:62:33
 list-add-own : (t : ℕ) → list-lts.Need-add-own (list-claims t) (list-at t) list.Post list-Inv-loop list-μ-loop
-list-add-own t c =
-    let s = c .before .before .before .before .before .before .before .before .before in
-    let p = s .pre .1 .0 in
-    let l = c .before .before .before .before .before .loop in
-    let G = l .inv .1 .1 .1 (p .tree) (p .is) in
-    let some = c .before .before .before .before .loop-test .taken in
-    let x = walks.going-next G some in
-    let e = c .before .before .before .statement-end .ensures (x .head) (x .head-is) in
-    let inside = walks.going-inside G some in
-    let long = walks.going-long G some (c .before .if1 .taken) in
-    omega (arith, inside, long, s .good .0 .0, s .good .0 .1)
+list-add-own t c = omega (arith, list-room t (c .before .before .before), list-long t (c .before))
 
--- src/walk.rt:62:27
 list-mul-own : (t : ℕ) → list-lts.Need-mul-own (list-claims t) (list-at t) list.Post list-Inv-loop list-μ-loop
-list-mul-own t c =
-    let s = c .before .before .before .before .before .before .before .before .before in
-    let p = s .pre .1 .0 in
-    let l = c .before .before .before .before .before .loop in
-    let G = l .inv .1 .1 .1 (p .tree) (p .is) in
-    let some = c .before .before .before .before .loop-test .taken in
-    let x = walks.going-next G some in
-    let e = c .before .before .before .statement-end .ensures (x .head) (x .head-is) in
-    let inside = walks.going-inside G some in
-    let long = walks.going-long G some (c .before .if1 .taken) in
-    omega (arith, inside, long, s .good .0 .0, s .good .0 .1)
+list-mul-own t c = omega (arith, list-room t (c .before .before .before), list-long t (c .before))
 
--- src/walk.rt:62:27
 list-shared-slice-read-own : (t : ℕ) → list-lts.Need-shared-slice-read-own (list-claims t) (list-at t) list.Post list-Inv-loop list-μ-loop
-list-shared-slice-read-own t c =
-    let s = c .before .before .before .before .before .before .before .before .before .before in
-    let p = s .pre .1 .0 in
-    let l = c .before .before .before .before .before .before .loop in
-    let G = l .inv .1 .1 .1 (p .tree) (p .is) in
-    let some = c .before .before .before .before .before .loop-test .taken in
-    let x = walks.going-next G some in
-    let e = c .before .before .before .before .statement-end .ensures (x .head) (x .head-is) in
-    let inside = walks.going-inside G some in
-    let long = walks.going-long G some (c .before .before .if1 .taken) in
-    omega (arith, inside, long, s .good .0 .0, s .good .0 .1)
+list-shared-slice-read-own t c = omega (arith, list-room t (c .before .before .before .before), list-long t (c .before .before))
 
--- src/walk.rt:63:44
 list-mul-source : (t : ℕ) → list-lts.Need-mul-source (list-claims t) (list-at t) list.Post list-Inv-loop list-μ-loop
-list-mul-source t c =
-    let s = c .before .before .before .before .before .before .before .before .before .before in
-    let p = s .pre .1 .0 in
-    let l = c .before .before .before .before .before .before .loop in
-    let G = l .inv .1 .1 .1 (p .tree) (p .is) in
-    let some = c .before .before .before .before .before .loop-test .taken in
-    let x = walks.going-next G some in
-    let e = c .before .before .before .before .statement-end .ensures (x .head) (x .head-is) in
-    let inside = walks.going-inside G some in
-    omega (arith, inside, statement-some (x .head), s .good .0 .0, s .good .0 .1, s .pre .1 .1 .1 .1)
+list-mul-source t c = omega (arith, list-room t (c .before .before .before .before))
 
--- src/walk.rt:63:44
 list-sub-source : (t : ℕ) → list-lts.Need-sub-source (list-claims t) (list-at t) list.Post list-Inv-loop list-μ-loop
-list-sub-source t c =
-    let s = c .before .before .before .before .before .before .before .before .before .before in
-    let p = s .pre .1 .0 in
-    let l = c .before .before .before .before .before .before .loop in
-    let G = l .inv .1 .1 .1 (p .tree) (p .is) in
-    let some = c .before .before .before .before .before .loop-test .taken in
-    let x = walks.going-next G some in
-    let e = c .before .before .before .before .statement-end .ensures (x .head) (x .head-is) in
-    let inside = walks.going-inside G some in
-    omega (arith, inside, statement-some (x .head), s .good .0 .0, s .good .0 .1, s .pre .1 .1 .1 .1)
+list-sub-source t c = omega (arith, list-room t (c .before .before .before .before))
 
--- src/walk.rt:63:44
 list-part-source-start : (t : ℕ) → list-lts.Need-part-source-start (list-claims t) (list-at t) list.Post list-Inv-loop list-μ-loop
-list-part-source-start t c =
-    let s = c .before .before .before .before .before .before .before .before .before .before in
-    let p = s .pre .1 .0 in
-    let l = c .before .before .before .before .before .before .loop in
-    let G = l .inv .1 .1 .1 (p .tree) (p .is) in
-    let some = c .before .before .before .before .before .loop-test .taken in
-    let x = walks.going-next G some in
-    let e = c .before .before .before .before .statement-end .ensures (x .head) (x .head-is) in
-    let inside = walks.going-inside G some in
-    omega (arith, inside, statement-some (x .head), s .good .0 .0, s .good .0 .1, s .pre .1 .1 .1 .1)
+list-part-source-start t c = omega (arith, list-room t (c .before .before .before .before))
 
--- src/walk.rt:63:44
 list-part-source-end : (t : ℕ) → list-lts.Need-part-source-end (list-claims t) (list-at t) list.Post list-Inv-loop list-μ-loop
-list-part-source-end t c =
-    let s = c .before .before .before .before .before .before .before .before .before .before in
-    let p = s .pre .1 .0 in
-    let l = c .before .before .before .before .before .before .loop in
-    let G = l .inv .1 .1 .1 (p .tree) (p .is) in
-    let some = c .before .before .before .before .before .loop-test .taken in
-    let x = walks.going-next G some in
-    let e = c .before .before .before .before .statement-end .ensures (x .head) (x .head-is) in
-    let inside = walks.going-inside G some in
-    omega (arith, inside, statement-some (x .head), s .good .0 .0, s .good .0 .1, s .pre .1 .1 .1 .1)
+list-part-source-end t c = omega (arith, list-room t (c .before .before .before .before))
 
--- src/walk.rt:63:21
 list-source-requires : (t : ℕ) → list-lts.Need-source-requires (list-claims t) (list-at t) list.Post list-Inv-loop list-μ-loop
 list-source-requires t c κs =
     let s = c .before .before .before .before .before .before .before .before .before .before .before in
@@ -804,121 +661,30 @@ list-source-requires t c κs =
     let inside = walks.going-inside G some in
     (walks.going-is G some (p .within) (c .before .before .before .before .before .statement-end .result) e, omega (arith, walks.going-first-word G some (p .within) (c .before .before .before .before .before .statement-end .result) e, c .before .before .before .if1 .taken))
 
--- src/walk.rt:64:28
 list-mul-cell : (t : ℕ) → list-lts.Need-mul-cell (list-claims t) (list-at t) list.Post list-Inv-loop list-μ-loop
-list-mul-cell t c =
-    let s = c .before .before .before .before .before .before .before .before .before .before .before .before in
-    let p = s .pre .1 .0 in
-    let l = c .before .before .before .before .before .before .before .before .loop in
-    let G = l .inv .1 .1 .1 (p .tree) (p .is) in
-    let some = c .before .before .before .before .before .before .before .loop-test .taken in
-    let x = walks.going-next G some in
-    let e = c .before .before .before .before .before .before .statement-end .ensures (x .head) (x .head-is) in
-    let inside = walks.going-inside G some in
-    let k = walks.kind-below (walks.going-kind G some) (c .before .before .before .before .if1 .taken) in
-    let w = walks.going-statement G some (p .within) in
-    omega (arith, walks.going-own G some k, target-below (x .head) w k, s .pre .1 .1 .0)
+list-mul-cell t c = omega (arith, list-own t (c .before .before .before .before))
 
--- src/walk.rt:64:28
 list-element-copy-out-cell : (t : ℕ) → list-lts.Need-element-copy-out-cell (list-claims t) (list-at t) list.Post list-Inv-loop list-μ-loop
-list-element-copy-out-cell t c =
-    let s = c .before .before .before .before .before .before .before .before .before .before .before .before in
-    let p = s .pre .1 .0 in
-    let l = c .before .before .before .before .before .before .before .before .loop in
-    let G = l .inv .1 .1 .1 (p .tree) (p .is) in
-    let some = c .before .before .before .before .before .before .before .loop-test .taken in
-    let x = walks.going-next G some in
-    let e = c .before .before .before .before .before .before .statement-end .ensures (x .head) (x .head-is) in
-    let inside = walks.going-inside G some in
-    let k = walks.kind-below (walks.going-kind G some) (c .before .before .before .before .if1 .taken) in
-    let w = walks.going-statement G some (p .within) in
-    omega (arith, walks.going-own G some k, target-below (x .head) w k, s .pre .1 .1 .0)
+list-element-copy-out-cell t c = omega (arith, list-own t (c .before .before .before .before))
 
--- src/walk.rt:65:29
 list-mul-other : (t : ℕ) → list-lts.Need-mul-other (list-claims t) (list-at t) list.Post list-Inv-loop list-μ-loop
-list-mul-other t c =
-    let s = c .before .before .before .before .before .before .before .before .before .before .before .before .before in
-    let p = s .pre .1 .0 in
-    let l = c .before .before .before .before .before .before .before .before .before .loop in
-    let G = l .inv .1 .1 .1 (p .tree) (p .is) in
-    let some = c .before .before .before .before .before .before .before .before .loop-test .taken in
-    let x = walks.going-next G some in
-    let e = c .before .before .before .before .before .before .before .statement-end .ensures (x .head) (x .head-is) in
-    let inside = walks.going-inside G some in
-    let k = walks.kind-below (walks.going-kind G some) (c .before .before .before .before .before .if1 .taken) in
-    let w = walks.going-statement G some (p .within) in
-    let f = c .before .source .ensures (x .head) (walks.going-part G some (c .before .before .before .before .before .before .before .statement-end .result) e) in
-    omega (arith, f, source-below (x .head) w k, s .pre .1 .1 .0)
+list-mul-other t c = omega (arith, list-read t (c .before))
 
--- src/walk.rt:65:29
 list-element-copy-out-other : (t : ℕ) → list-lts.Need-element-copy-out-other (list-claims t) (list-at t) list.Post list-Inv-loop list-μ-loop
-list-element-copy-out-other t c =
-    let s = c .before .before .before .before .before .before .before .before .before .before .before .before .before in
-    let p = s .pre .1 .0 in
-    let l = c .before .before .before .before .before .before .before .before .before .loop in
-    let G = l .inv .1 .1 .1 (p .tree) (p .is) in
-    let some = c .before .before .before .before .before .before .before .before .loop-test .taken in
-    let x = walks.going-next G some in
-    let e = c .before .before .before .before .before .before .before .statement-end .ensures (x .head) (x .head-is) in
-    let inside = walks.going-inside G some in
-    let k = walks.kind-below (walks.going-kind G some) (c .before .before .before .before .before .if1 .taken) in
-    let w = walks.going-statement G some (p .within) in
-    let f = c .before .source .ensures (x .head) (walks.going-part G some (c .before .before .before .before .before .before .before .statement-end .result) e) in
-    omega (arith, f, source-below (x .head) w k, s .pre .1 .1 .0)
+list-element-copy-out-other t c = omega (arith, list-read t (c .before))
 
--- src/walk.rt:68:56
 list-mul-change : (t : ℕ) → list-lts.Need-mul-change (list-claims t) (list-at t) list.Post list-Inv-loop list-μ-loop
-list-mul-change t c =
-    let s = c .before .before .before .before .before .before .before .before .before .before .before .before .before .before in
-    let p = s .pre .1 .0 in
-    let l = c .before .before .before .before .before .before .before .before .before .before .loop in
-    let G = l .inv .1 .1 .1 (p .tree) (p .is) in
-    let some = c .before .before .before .before .before .before .before .before .before .loop-test .taken in
-    let x = walks.going-next G some in
-    let e = c .before .before .before .before .before .before .before .before .statement-end .ensures (x .head) (x .head-is) in
-    let inside = walks.going-inside G some in
-    omega (arith, inside, statement-some (x .head), s .good .0 .0, s .good .0 .1, s .pre .1 .1 .1 .1)
+list-mul-change t c = omega (arith, list-room t (c .before .before .before .before .before .before .before .before))
 
--- src/walk.rt:68:56
 list-sub-change : (t : ℕ) → list-lts.Need-sub-change (list-claims t) (list-at t) list.Post list-Inv-loop list-μ-loop
-list-sub-change t c =
-    let s = c .before .before .before .before .before .before .before .before .before .before .before .before .before .before in
-    let p = s .pre .1 .0 in
-    let l = c .before .before .before .before .before .before .before .before .before .before .loop in
-    let G = l .inv .1 .1 .1 (p .tree) (p .is) in
-    let some = c .before .before .before .before .before .before .before .before .before .loop-test .taken in
-    let x = walks.going-next G some in
-    let e = c .before .before .before .before .before .before .before .before .statement-end .ensures (x .head) (x .head-is) in
-    let inside = walks.going-inside G some in
-    omega (arith, inside, statement-some (x .head), s .good .0 .0, s .good .0 .1, s .pre .1 .1 .1 .1)
+list-sub-change t c = omega (arith, list-room t (c .before .before .before .before .before .before .before .before))
 
--- src/walk.rt:68:56
 list-part-change-start : (t : ℕ) → list-lts.Need-part-change-start (list-claims t) (list-at t) list.Post list-Inv-loop list-μ-loop
-list-part-change-start t c =
-    let s = c .before .before .before .before .before .before .before .before .before .before .before .before .before .before in
-    let p = s .pre .1 .0 in
-    let l = c .before .before .before .before .before .before .before .before .before .before .loop in
-    let G = l .inv .1 .1 .1 (p .tree) (p .is) in
-    let some = c .before .before .before .before .before .before .before .before .before .loop-test .taken in
-    let x = walks.going-next G some in
-    let e = c .before .before .before .before .before .before .before .before .statement-end .ensures (x .head) (x .head-is) in
-    let inside = walks.going-inside G some in
-    omega (arith, inside, statement-some (x .head), s .good .0 .0, s .good .0 .1, s .pre .1 .1 .1 .1)
+list-part-change-start t c = omega (arith, list-room t (c .before .before .before .before .before .before .before .before))
 
--- src/walk.rt:68:56
 list-part-change-end : (t : ℕ) → list-lts.Need-part-change-end (list-claims t) (list-at t) list.Post list-Inv-loop list-μ-loop
-list-part-change-end t c =
-    let s = c .before .before .before .before .before .before .before .before .before .before .before .before .before .before in
-    let p = s .pre .1 .0 in
-    let l = c .before .before .before .before .before .before .before .before .before .before .loop in
-    let G = l .inv .1 .1 .1 (p .tree) (p .is) in
-    let some = c .before .before .before .before .before .before .before .before .before .loop-test .taken in
-    let x = walks.going-next G some in
-    let e = c .before .before .before .before .before .before .before .before .statement-end .ensures (x .head) (x .head-is) in
-    let inside = walks.going-inside G some in
-    omega (arith, inside, statement-some (x .head), s .good .0 .0, s .good .0 .1, s .pre .1 .1 .1 .1)
+list-part-change-end t c = omega (arith, list-room t (c .before .before .before .before .before .before .before .before))
 
--- src/walk.rt:68:42
 list-change-requires : (t : ℕ) → list-lts.Need-change-requires (list-claims t) (list-at t) list.Post list-Inv-loop list-μ-loop
 list-change-requires t c κs =
     let s = c .before .before .before .before .before .before .before .before .before .before .before .before .before .before .before in
@@ -931,275 +697,129 @@ list-change-requires t c κs =
     let inside = walks.going-inside G some in
     (walks.going-is G some (p .within) (c .before .before .before .before .before .before .before .before .before .statement-end .result) e, omega (arith, walks.going-first-word G some (p .within) (c .before .before .before .before .before .before .before .before .before .statement-end .result) e, c .before .before .before .before .before .before .before .if1 .taken))
 
--- src/walk.rt:68:33
 list-enum-known-range : (t : ℕ) → list-lts.Need-enum-known-range (list-claims t) (list-at t) list.Post list-Inv-loop list-μ-loop
 list-enum-known-range t c = search needs
 
--- src/walk.rt:69:47
 list-enum-told : (t : ℕ) → list-lts.Need-enum-told (list-claims t) (list-at t) list.Post list-Inv-loop list-μ-loop
 list-enum-told t c = search needs
 
--- src/walk.rt:69:47
 list-add-refused : (t : ℕ) → list-lts.Need-add-refused (list-claims t) (list-at t) list.Post list-Inv-loop list-μ-loop
-list-add-refused t c =
-    let s = c .before .before .before .before .before .before .before .before .before .before .before .before .before .before .before .before .before .before in
-    let p = s .pre .1 .0 in
-    let l = c .before .before .before .before .before .before .before .before .before .before .before .before .before .before .loop in
-    let G = l .inv .1 .1 .1 (p .tree) (p .is) in
-    let some = c .before .before .before .before .before .before .before .before .before .before .before .before .before .loop-test .taken in
-    let x = walks.going-next G some in
-    let e = c .before .before .before .before .before .before .before .before .before .before .before .before .statement-end .ensures (x .head) (x .head-is) in
-    let inside = walks.going-inside G some in
-    omega (arith, inside, statement-some (x .head), s .good .0 .0, s .good .0 .1, s .pre .1 .1 .1 .1)
+list-add-refused t c = omega (arith, list-room t (c .before .before .before .before .before .before .before .before .before .before .before .before))
 
--- src/walk.rt:69:21
 list-refused-requires : (t : ℕ) → list-lts.Need-refused-requires (list-claims t) (list-at t) list.Post list-Inv-loop list-μ-loop
 list-refused-requires t c κs = tt
 
--- src/walk.rt:69:21
 list-same-length : (t : ℕ) → list-lts.Need-same-length (list-claims t) (list-at t) list.Post list-Inv-loop list-μ-loop
 list-same-length t c = c .before .before .before .before .before .before .before .before .before .before .before .before .before .before .before .loop .inv .1 .0
 
--- src/walk.rt:69:21
 list-returns : (t : ℕ) → list-lts.Need-returns (list-claims t) (list-at t) list.Post list-Inv-loop list-μ-loop
 list-returns t c =
-    λ t h.
-    let s = c .before .before .before .before .before .before .before .before .before .before .before .before .before .before .before .before .before .before .before in
+    λ tree h.
     let l = c .before .before .before .before .before .before .before .before .before .before .before .before .before .before .before .loop in
-    let G = l .inv .1 .1 .1 t h in
+    let G = l .inv .1 .1 .1 tree h in
     let some = c .before .before .before .before .before .before .before .before .before .before .before .before .before .before .loop-test .taken in
-    let x = walks.going-next G some in
-    let e = c .before .before .before .before .before .before .before .before .before .before .before .before .before .statement-end .ensures (x .head) (x .head-is) in
-    let f = walks.going-part G some (c .before .before .before .before .before .before .before .before .before .before .before .before .before .statement-end .result) e in
     let k = walks.kind-below (walks.going-kind G some) (c .before .before .before .before .before .before .before .before .before .before .before .if1 .taken) in
-    let p = s .pre .1 .0 in
-    let own = walks.going-own G some k in
-    let src = c .before .before .before .before .before .before .before .source .ensures (x .head) f in
-    let w = l .inv .1 .1 .1 (p .tree) (p .is) in
-    let y = walks.going-next w some in
-    let ky = walks.kind-below (walks.going-kind w some) (c .before .before .before .before .before .before .before .before .before .before .before .if1 .taken) in
-    let wy = walks.going-statement w some (p .within) in
-    let ey = c .before .before .before .before .before .before .before .before .before .before .before .before .before .statement-end .ensures (y .head) (y .head-is) in
-    let own-cell = there (l .s .cells) (getD (s .args .words .now) (l .at + 1) 0) _ (omega (arith, l .inv .1 .1 .0, walks.going-own w some ky, target-below (y .head) wy ky, s .pre .1 .1 .0)) in
-    let read-cell = there (l .s .cells) (c .before .before .before .before .before .before .before .source .result) _ (omega (arith, l .inv .1 .1 .0, c .before .before .before .before .before .before .before .source .ensures (y .head) (walks.going-part w some (c .before .before .before .before .before .before .before .before .before .before .before .before .before .statement-end .result) ey), source-below (y .head) wy ky, s .pre .1 .1 .0)) in
-    let j = walks.going-over G some k _ _ (ap (λ (z : Cell). z .range) own-cell ∙ ap (λ (v : ℕ). states.get (l .s) v) own) (ap (λ (z : Cell). z .range) read-cell ∙ ap (λ (v : ℕ). states.get (l .s) v) src) (c .before .before .before .before .before .before .before .before .before .before .if2 .taken) (sym (c .before .enum-told .given .1) ∙ c .before .before .before .change .ensures (x .head) f) in
+    let j = walks.going-over G some k (c .before .before .before .before .before .before .before .before .before .before .if2 .taken) (sym (c .before .enum-told .given .1) ∙ list-change t (c .before .before .before) tree h) in
     record { out = c .refused .ensures ∙ j .out; marks = j .marks }
 
--- src/walk.rt:73:29
 list-enum-told-2 : (t : ℕ) → list-lts.Need-enum-told-2 (list-claims t) (list-at t) list.Post list-Inv-loop list-μ-loop
 list-enum-told-2 t c = search needs
 
--- src/walk.rt:73:29
 list-empty-requires : (t : ℕ) → list-lts.Need-empty-requires (list-claims t) (list-at t) list.Post list-Inv-loop list-μ-loop
 list-empty-requires t c κs = tt
 
--- src/walk.rt:56:5
 list-loop-less : (t : ℕ) → list-lts.Need-loop-less (list-claims t) (list-at t) list.Post list-Inv-loop list-μ-loop
 list-loop-less t c = omega (arith, c .before .before .before .before .before .before .before .before .before .before .before .before .before .before .before .before .before .loop-test .taken)
 
--- src/walk.rt:56:5
 list-loop-again : (t : ℕ) → list-lts.Need-loop-again (list-claims t) (list-at t) list.Post list-Inv-loop list-μ-loop
-list-loop-again t c =
-    let p = c .before .before .before .before .before .before .before .before .before .before .before .before .before .before .before .before .before .before .before .before .before .before .pre .1 .0 in
-    let w0 = c .before .before .before .before .before .before .before .before .before .before .before .before .before .before .before .before .before .before .loop .inv .1 .1 .1 (p .tree) (p .is) in
-    let x0 = walks.going-next w0 (c .before .before .before .before .before .before .before .before .before .before .before .before .before .before .before .before .before .loop-test .taken) in (
-      omega (arith, c .before .before .before .before .before .before .before .before .before .before .before .before .before .before .before .before .statement-end .ensures (x0 .head) (x0 .head-is), statement-some (x0 .head)),
-      (
-        c .before .before .before .before .before .before .before .before .before .before .before .before .before .before .before .before .before .before .loop .inv .1 .0,
-        (
-          rw (c .empty .ensures),
-          λ t h.
-              let s = c .before .before .before .before .before .before .before .before .before .before .before .before .before .before .before .before .before .before .before .before .before .before in
-              let l = c .before .before .before .before .before .before .before .before .before .before .before .before .before .before .before .before .before .before .loop in
-              let G = l .inv .1 .1 .1 t h in
-              let some = c .before .before .before .before .before .before .before .before .before .before .before .before .before .before .before .before .before .loop-test .taken in
-              let x = walks.going-next G some in
-              let e = c .before .before .before .before .before .before .before .before .before .before .before .before .before .before .before .before .statement-end .ensures (x .head) (x .head-is) in
-              let f = walks.going-part G some (c .before .before .before .before .before .before .before .before .before .before .before .before .before .before .before .before .statement-end .result) e in
-              let k = walks.kind-below (walks.going-kind G some) (c .before .before .before .before .before .before .before .before .before .before .before .before .before .before .if1 .taken) in
-              let p = s .pre .1 .0 in
-              let own = walks.going-own G some k in
-              let src = c .before .before .before .before .before .before .before .before .before .before .source .ensures (x .head) f in
-              let w = l .inv .1 .1 .1 (p .tree) (p .is) in
-              let y = walks.going-next w some in
-              let ky = walks.kind-below (walks.going-kind w some) (c .before .before .before .before .before .before .before .before .before .before .before .before .before .before .if1 .taken) in
-              let wy = walks.going-statement w some (p .within) in
-              let ey = c .before .before .before .before .before .before .before .before .before .before .before .before .before .before .before .before .statement-end .ensures (y .head) (y .head-is) in
-              let own-cell = there (l .s .cells) (getD (s .args .words .now) (l .at + 1) 0) _ (omega (arith, l .inv .1 .1 .0, walks.going-own w some ky, target-below (y .head) wy ky, s .pre .1 .1 .0)) in
-              let read-cell = there (l .s .cells) (c .before .before .before .before .before .before .before .before .before .before .source .result) _ (omega (arith, l .inv .1 .1 .0, c .before .before .before .before .before .before .before .before .before .before .source .ensures (y .head) (walks.going-part w some (c .before .before .before .before .before .before .before .before .before .before .before .before .before .before .before .before .statement-end .result) ey), source-below (y .head) wy ky, s .pre .1 .1 .0)) in
-              walks.going-changed G some k _ _ (ap (λ (z : Cell). z .range) own-cell ∙ ap (λ (v : ℕ). states.get (l .s) v) own) (ap (λ (z : Cell). z .range) read-cell ∙ ap (λ (v : ℕ). states.get (l .s) v) src) (c .before .before .before .before .before .before .before .before .before .before .before .before .before .before .before .before .statement-end .result) e (sym (c .before .before .before .before .range .given .1) ∙ c .before .before .before .before .before .before .change .ensures (x .head) f) (c .empty .result) (c .empty .ensures ∙ put-none (l .s) (plain.target (x .head)) (c .before .before .before .before .before .before .before .before .before .before .before .before .before .if2 .taken) (c .before .enum-told2 .given .1)),
-        ),
-      ),
-    )
+list-loop-again t c = (
+  omega (arith, list-room t (c .before .before .before .before .before .before .before .before .before .before .before .before .before .before .before .before)),
+  (
+    c .before .before .before .before .before .before .before .before .before .before .before .before .before .before .before .before .before .before .loop .inv .1 .0,
+    (
+      rw (c .empty .ensures),
+      λ tree h.
+          let l = c .before .before .before .before .before .before .before .before .before .before .before .before .before .before .before .before .before .before .loop in
+          let G = l .inv .1 .1 .1 tree h in
+          let some = c .before .before .before .before .before .before .before .before .before .before .before .before .before .before .before .before .before .loop-test .taken in
+          let x = walks.going-next G some in
+          let e = c .before .before .before .before .before .before .before .before .before .before .before .before .before .before .before .before .statement-end .ensures (x .head) (x .head-is) in
+          let k = walks.kind-below (walks.going-kind G some) (c .before .before .before .before .before .before .before .before .before .before .before .before .before .before .if1 .taken) in
+          walks.going-changed G some k (c .before .before .before .before .before .before .before .before .before .before .before .before .before .before .before .before .statement-end .result) e (sym (c .before .before .before .before .range .given .1) ∙ list-change t (c .before .before .before .before .before .before) tree h) (c .empty .result) (c .empty .ensures ∙ put-none (l .s) (plain.target (x .head)) (c .before .before .before .before .before .before .before .before .before .before .before .before .before .if2 .taken) (c .before .enum-told2 .given .1)),
+    ),
+  ),
+)
 
--- src/walk.rt:76:40
 list-enum-told-3 : (t : ℕ) → list-lts.Need-enum-told-3 (list-claims t) (list-at t) list.Post list-Inv-loop list-μ-loop
 list-enum-told-3 t c = search needs
 
--- src/walk.rt:76:25
 list-mul-t46 : (t : ℕ) → list-lts.Need-mul-t46 (list-claims t) (list-at t) list.Post list-Inv-loop list-μ-loop
-list-mul-t46 t c =
-    let s = c .before .before .before .before .before .before .before .before .before .before .before .before .before .before .before .before .before .before .before .before .before in
-    let p = s .pre .1 .0 in
-    let l = c .before .before .before .before .before .before .before .before .before .before .before .before .before .before .before .before .before .loop in
-    let G = l .inv .1 .1 .1 (p .tree) (p .is) in
-    let some = c .before .before .before .before .before .before .before .before .before .before .before .before .before .before .before .before .loop-test .taken in
-    let x = walks.going-next G some in
-    let e = c .before .before .before .before .before .before .before .before .before .before .before .before .before .before .before .statement-end .ensures (x .head) (x .head-is) in
-    let inside = walks.going-inside G some in
-    let k = walks.kind-below (walks.going-kind G some) (c .before .before .before .before .before .before .before .before .before .before .before .before .before .if1 .taken) in
-    let w = walks.going-statement G some (p .within) in
-    omega (arith, walks.going-own G some k, target-below (x .head) w k, s .pre .1 .1 .0)
+list-mul-t46 t c = omega (arith, list-own t (c .before .before .before .before .before .before .before .before .before .before .before .before .before))
 
--- src/walk.rt:76:25
 list-element-set-from-s : (t : ℕ) → list-lts.Need-element-set-from-s (list-claims t) (list-at t) list.Post list-Inv-loop list-μ-loop
-list-element-set-from-s t c =
-    let s = c .before .before .before .before .before .before .before .before .before .before .before .before .before .before .before .before .before .before .before .before .before in
-    let p = s .pre .1 .0 in
-    let l = c .before .before .before .before .before .before .before .before .before .before .before .before .before .before .before .before .before .loop in
-    let G = l .inv .1 .1 .1 (p .tree) (p .is) in
-    let some = c .before .before .before .before .before .before .before .before .before .before .before .before .before .before .before .before .loop-test .taken in
-    let x = walks.going-next G some in
-    let e = c .before .before .before .before .before .before .before .before .before .before .before .before .before .before .before .statement-end .ensures (x .head) (x .head-is) in
-    let inside = walks.going-inside G some in
-    let k = walks.kind-below (walks.going-kind G some) (c .before .before .before .before .before .before .before .before .before .before .before .before .before .if1 .taken) in
-    let w = walks.going-statement G some (p .within) in
-    omega (arith, walks.going-own G some k, target-below (x .head) w k, s .pre .1 .1 .0)
+list-element-set-from-s t c = omega (arith, list-own t (c .before .before .before .before .before .before .before .before .before .before .before .before .before))
 
--- src/walk.rt:56:5
 list-loop-less-2 : (t : ℕ) → list-lts.Need-loop-less-2 (list-claims t) (list-at t) list.Post list-Inv-loop list-μ-loop
 list-loop-less-2 t c = omega (arith, c .before .before .before .before .before .before .before .before .before .before .before .before .before .before .before .before .loop-test .taken)
 
--- src/walk.rt:56:5
 list-loop-again-2 : (t : ℕ) → list-lts.Need-loop-again-2 (list-claims t) (list-at t) list.Post list-Inv-loop list-μ-loop
-list-loop-again-2 t c =
-    let p = c .before .before .before .before .before .before .before .before .before .before .before .before .before .before .before .before .before .before .before .before .before .pre .1 .0 in
-    let w0 = c .before .before .before .before .before .before .before .before .before .before .before .before .before .before .before .before .before .loop .inv .1 .1 .1 (p .tree) (p .is) in
-    let x0 = walks.going-next w0 (c .before .before .before .before .before .before .before .before .before .before .before .before .before .before .before .before .loop-test .taken) in (
-      omega (arith, c .before .before .before .before .before .before .before .before .before .before .before .before .before .before .before .statement-end .ensures (x0 .head) (x0 .head-is), statement-some (x0 .head)),
-      (
-        c .before .before .before .before .before .before .before .before .before .before .before .before .before .before .before .before .before .loop .inv .1 .0,
-        (
-          simp length-set (c .before .before .before .before .before .before .before .before .before .before .before .before .before .before .before .before .before .loop .inv .1 .1 .0),
-          λ t h.
-              let s = c .before .before .before .before .before .before .before .before .before .before .before .before .before .before .before .before .before .before .before .before .before in
-              let l = c .before .before .before .before .before .before .before .before .before .before .before .before .before .before .before .before .before .loop in
-              let G = l .inv .1 .1 .1 t h in
-              let some = c .before .before .before .before .before .before .before .before .before .before .before .before .before .before .before .before .loop-test .taken in
-              let x = walks.going-next G some in
-              let e = c .before .before .before .before .before .before .before .before .before .before .before .before .before .before .before .statement-end .ensures (x .head) (x .head-is) in
-              let f = walks.going-part G some (c .before .before .before .before .before .before .before .before .before .before .before .before .before .before .before .statement-end .result) e in
-              let k = walks.kind-below (walks.going-kind G some) (c .before .before .before .before .before .before .before .before .before .before .before .before .before .if1 .taken) in
-              let p = s .pre .1 .0 in
-              let own = walks.going-own G some k in
-              let src = c .before .before .before .before .before .before .before .before .before .source .ensures (x .head) f in
-              let w = l .inv .1 .1 .1 (p .tree) (p .is) in
-              let y = walks.going-next w some in
-              let ky = walks.kind-below (walks.going-kind w some) (c .before .before .before .before .before .before .before .before .before .before .before .before .before .if1 .taken) in
-              let wy = walks.going-statement w some (p .within) in
-              let ey = c .before .before .before .before .before .before .before .before .before .before .before .before .before .before .before .statement-end .ensures (y .head) (y .head-is) in
-              let own-cell = there (l .s .cells) (getD (s .args .words .now) (l .at + 1) 0) _ (omega (arith, l .inv .1 .1 .0, walks.going-own w some ky, target-below (y .head) wy ky, s .pre .1 .1 .0)) in
-              let read-cell = there (l .s .cells) (c .before .before .before .before .before .before .before .before .before .source .result) _ (omega (arith, l .inv .1 .1 .0, c .before .before .before .before .before .before .before .before .before .source .ensures (y .head) (walks.going-part w some (c .before .before .before .before .before .before .before .before .before .before .before .before .before .before .before .statement-end .result) ey), source-below (y .head) wy ky, s .pre .1 .1 .0)) in
-              walks.going-changed G some k _ _ (ap (λ (z : Cell). z .range) own-cell ∙ ap (λ (v : ℕ). states.get (l .s) v) own) (ap (λ (z : Cell). z .range) read-cell ∙ ap (λ (v : ℕ). states.get (l .s) v) src) (c .before .before .before .before .before .before .before .before .before .before .before .before .before .before .before .statement-end .result) e (sym (c .before .before .before .range .given .1) ∙ c .before .before .before .before .before .change .ensures (x .head) f) _ (put-span (l .s) (getD (s .args .words .now) (l .at + 1) 0) (c .before .before .before .before .before .before .before .before .before .before .before .before .if2 .taken) (c .enum-told3 .given .1) ∙ ap (λ (v : ℕ). states.put (l .s) v (c .before .before .before .range .given .0 .0)) own),
-        ),
-      ),
-    )
+list-loop-again-2 t c = (
+  omega (arith, list-room t (c .before .before .before .before .before .before .before .before .before .before .before .before .before .before .before)),
+  (
+    c .before .before .before .before .before .before .before .before .before .before .before .before .before .before .before .before .before .loop .inv .1 .0,
+    (
+      simp length-set (c .before .before .before .before .before .before .before .before .before .before .before .before .before .before .before .before .before .loop .inv .1 .1 .0),
+      λ tree h.
+          let s = c .before .before .before .before .before .before .before .before .before .before .before .before .before .before .before .before .before .before .before .before .before in
+          let l = c .before .before .before .before .before .before .before .before .before .before .before .before .before .before .before .before .before .loop in
+          let G = l .inv .1 .1 .1 tree h in
+          let some = c .before .before .before .before .before .before .before .before .before .before .before .before .before .before .before .before .loop-test .taken in
+          let x = walks.going-next G some in
+          let e = c .before .before .before .before .before .before .before .before .before .before .before .before .before .before .before .statement-end .ensures (x .head) (x .head-is) in
+          let k = walks.kind-below (walks.going-kind G some) (c .before .before .before .before .before .before .before .before .before .before .before .before .before .if1 .taken) in
+          let own = walks.going-own G some k in
+          walks.going-changed G some k (c .before .before .before .before .before .before .before .before .before .before .before .before .before .before .before .statement-end .result) e (sym (c .before .before .before .range .given .1) ∙ list-change t (c .before .before .before .before .before) tree h) _ (put-span (l .s) (getD (s .args .words .now) (l .at + 1) 0) (c .before .before .before .before .before .before .before .before .before .before .before .before .if2 .taken) (c .enum-told3 .given .1) ∙ ap (λ (v : ℕ). states.put (l .s) v (c .before .before .before .range .given .0 .0)) own),
+    ),
+  ),
+)
 
--- src/walk.rt:56:5
 list-loop-less-3 : (t : ℕ) → list-lts.Need-loop-less-3 (list-claims t) (list-at t) list.Post list-Inv-loop list-μ-loop
 list-loop-less-3 t c = omega (arith, c .before .before .before .before .loop-test .taken)
 
--- src/walk.rt:56:5
 list-loop-again-3 : (t : ℕ) → list-lts.Need-loop-again-3 (list-claims t) (list-at t) list.Post list-Inv-loop list-μ-loop
-list-loop-again-3 t c =
-    let p = c .before .before .before .before .before .before .before .before .before .pre .1 .0 in
-    let w0 = c .before .before .before .before .before .loop .inv .1 .1 .1 (p .tree) (p .is) in
-    let x0 = walks.going-next w0 (c .before .before .before .before .loop-test .taken) in (
-      omega (arith, c .before .before .before .statement-end .ensures (x0 .head) (x0 .head-is), statement-some (x0 .head)),
-      (
-        c .before .before .before .before .before .loop .inv .1 .0,
-        (
-          c .before .before .before .before .before .loop .inv .1 .1 .0,
-          λ t h.
-              let s = c .before .before .before .before .before .before .before .before .before in
-              let l = c .before .before .before .before .before .loop in
-              let G = l .inv .1 .1 .1 t h in
-              let some = c .before .before .before .before .loop-test .taken in
-              let x = walks.going-next G some in
-              let e = c .before .before .before .statement-end .ensures (x .head) (x .head-is) in
-              let f = walks.going-part G some (c .before .before .before .statement-end .result) e in
-              let k = walks.kind-below (walks.going-kind G some) (c .before .if1 .taken) in
-              walks.going-dead G some k (c .before .before .before .statement-end .result) e (c .if2 .left),
-        ),
-      ),
-    )
+list-loop-again-3 t c = (
+  omega (arith, list-room t (c .before .before .before)),
+  (
+    c .before .before .before .before .before .loop .inv .1 .0,
+    (
+      c .before .before .before .before .before .loop .inv .1 .1 .0,
+      λ t h.
+          let l = c .before .before .before .before .before .loop in
+          let G = l .inv .1 .1 .1 t h in
+          let some = c .before .before .before .before .loop-test .taken in
+          let x = walks.going-next G some in
+          let e = c .before .before .before .statement-end .ensures (x .head) (x .head-is) in
+          let k = walks.kind-below (walks.going-kind G some) (c .before .if1 .taken) in
+          walks.going-dead G some k (c .before .before .before .statement-end .result) e (c .if2 .left),
+    ),
+  ),
+)
 
--- src/walk.rt:81:31
 list-mul-statement : (t : ℕ) → list-lts.Need-mul-statement (list-claims t) (list-at t) list.Post list-Inv-loop list-μ-loop
-list-mul-statement t c =
-    let s = c .before .before .before .before .before .before .before .before in
-    let p = s .pre .1 .0 in
-    let l = c .before .before .before .before .loop in
-    let G = l .inv .1 .1 .1 (p .tree) (p .is) in
-    let some = c .before .before .before .loop-test .taken in
-    let x = walks.going-next G some in
-    let e = c .before .before .statement-end .ensures (x .head) (x .head-is) in
-    let inside = walks.going-inside G some in
-    omega (arith, inside, statement-some (x .head), s .good .0 .0, s .good .0 .1, s .pre .1 .1 .1 .1)
+list-mul-statement t c = omega (arith, list-room t (c .before .before))
 
--- src/walk.rt:81:31
 list-sub-statement : (t : ℕ) → list-lts.Need-sub-statement (list-claims t) (list-at t) list.Post list-Inv-loop list-μ-loop
-list-sub-statement t c =
-    let s = c .before .before .before .before .before .before .before .before in
-    let p = s .pre .1 .0 in
-    let l = c .before .before .before .before .loop in
-    let G = l .inv .1 .1 .1 (p .tree) (p .is) in
-    let some = c .before .before .before .loop-test .taken in
-    let x = walks.going-next G some in
-    let e = c .before .before .statement-end .ensures (x .head) (x .head-is) in
-    let inside = walks.going-inside G some in
-    omega (arith, inside, statement-some (x .head), s .good .0 .0, s .good .0 .1, s .pre .1 .1 .1 .1)
+list-sub-statement t c = omega (arith, list-room t (c .before .before))
 
--- src/walk.rt:81:31
 list-part-statement-start : (t : ℕ) → list-lts.Need-part-statement-start (list-claims t) (list-at t) list.Post list-Inv-loop list-μ-loop
-list-part-statement-start t c =
-    let s = c .before .before .before .before .before .before .before .before in
-    let p = s .pre .1 .0 in
-    let l = c .before .before .before .before .loop in
-    let G = l .inv .1 .1 .1 (p .tree) (p .is) in
-    let some = c .before .before .before .loop-test .taken in
-    let x = walks.going-next G some in
-    let e = c .before .before .statement-end .ensures (x .head) (x .head-is) in
-    let inside = walks.going-inside G some in
-    omega (arith, inside, statement-some (x .head), s .good .0 .0, s .good .0 .1, s .pre .1 .1 .1 .1)
+list-part-statement-start t c = omega (arith, list-room t (c .before .before))
 
--- src/walk.rt:81:31
 list-part-statement-end : (t : ℕ) → list-lts.Need-part-statement-end (list-claims t) (list-at t) list.Post list-Inv-loop list-μ-loop
-list-part-statement-end t c =
-    let s = c .before .before .before .before .before .before .before .before in
-    let p = s .pre .1 .0 in
-    let l = c .before .before .before .before .loop in
-    let G = l .inv .1 .1 .1 (p .tree) (p .is) in
-    let some = c .before .before .before .loop-test .taken in
-    let x = walks.going-next G some in
-    let e = c .before .before .statement-end .ensures (x .head) (x .head-is) in
-    let inside = walks.going-inside G some in
-    omega (arith, inside, statement-some (x .head), s .good .0 .0, s .good .0 .1, s .pre .1 .1 .1 .1)
+list-part-statement-end t c = omega (arith, list-room t (c .before .before))
 
--- src/walk.rt:81:49
 list-add-statement : (t : ℕ) → list-lts.Need-add-statement (list-claims t) (list-at t) list.Post list-Inv-loop list-μ-loop
-list-add-statement t c =
-    let s = c .before .before .before .before .before .before .before .before .before in
-    let p = s .pre .1 .0 in
-    let l = c .before .before .before .before .before .loop in
-    let G = l .inv .1 .1 .1 (p .tree) (p .is) in
-    let some = c .before .before .before .before .loop-test .taken in
-    let x = walks.going-next G some in
-    let e = c .before .before .before .statement-end .ensures (x .head) (x .head-is) in
-    let inside = walks.going-inside G some in
-    omega (arith, inside, statement-some (x .head), s .good .0 .0, s .good .0 .1, s .pre .1 .1 .1 .1)
+list-add-statement t c = omega (arith, list-room t (c .before .before .before))
 
--- src/walk.rt:81:17
 list-statement-requires : (t : ℕ) → list-lts.Need-statement-requires (list-claims t) (list-at t) list.Post list-Inv-loop list-μ-loop
 list-statement-requires t c κs =
     let s = c .before .before .before .before .before .before .before .before .before .before in
@@ -1221,15 +841,12 @@ list-statement-requires t c κs =
       ),
     )
 
--- src/walk.rt:84:17
 list-enum-told-4 : (t : ℕ) → list-lts.Need-enum-told-4 (list-claims t) (list-at t) list.Post list-Inv-loop list-μ-loop
 list-enum-told-4 t c = search needs
 
--- src/walk.rt:84:17
 list-same-length-2 : (t : ℕ) → list-lts.Need-same-length-2 (list-claims t) (list-at t) list.Post list-Inv-loop list-μ-loop
 list-same-length-2 t c = c .before .before .before .before .statement .kept .1 .1 .1 .1 .1 .0 ∙ c .before .before .before .before .before .before .before .before .before .before .before .loop .inv .1 .0
 
--- src/walk.rt:84:17
 list-returns-2 : (t : ℕ) → list-lts.Need-returns-2 (list-claims t) (list-at t) list.Post list-Inv-loop list-μ-loop
 list-returns-2 t c =
     λ t h.
@@ -1245,43 +862,34 @@ list-returns-2 t c =
 list-enum-told-5 : (t : ℕ) → list-lts.Need-enum-told-5 (list-claims t) (list-at t) list.Post list-Inv-loop list-μ-loop
 list-enum-told-5 t c = search needs
 
--- src/walk.rt:56:5
 list-loop-less-4 : (t : ℕ) → list-lts.Need-loop-less-4 (list-claims t) (list-at t) list.Post list-Inv-loop list-μ-loop
 list-loop-less-4 t c = omega (arith, c .before .before .before .before .before .before .before .before .before .before .before .loop-test .taken)
 
--- src/walk.rt:56:5
 list-loop-again-4 : (t : ℕ) → list-lts.Need-loop-again-4 (list-claims t) (list-at t) list.Post list-Inv-loop list-μ-loop
-list-loop-again-4 t c =
-    let p = c .before .before .before .before .before .before .before .before .before .before .before .before .before .before .before .before .pre .1 .0 in
-    let w0 = c .before .before .before .before .before .before .before .before .before .before .before .before .loop .inv .1 .1 .1 (p .tree) (p .is) in
-    let x0 = walks.going-next w0 (c .before .before .before .before .before .before .before .before .before .before .before .loop-test .taken) in (
-      omega (arith, c .before .before .before .before .before .before .before .before .before .before .statement-end .ensures (x0 .head) (x0 .head-is), statement-some (x0 .head)),
-      (
-        c .before .before .before .before .before .statement .kept .1 .1 .1 .1 .1 .0 ∙ c .before .before .before .before .before .before .before .before .before .before .before .before .loop .inv .1 .0,
-        (
-          answer-long (c .before .before .before .before .before .statement .result) (c .before .before .before .before .before .statement .ok),
-          λ t h.
-              let s = c .before .before .before .before .before .before .before .before .before .before .before .before .before .before .before .before in
-              let l = c .before .before .before .before .before .before .before .before .before .before .before .before .loop in
-              let G = l .inv .1 .1 .1 t h in
-              let some = c .before .before .before .before .before .before .before .before .before .before .before .loop-test .taken in
-              let x = walks.going-next G some in
-              let e = c .before .before .before .before .before .before .before .before .before .before .statement-end .ensures (x .head) (x .head-is) in
-              let f = walks.going-part G some (c .before .before .before .before .before .before .before .before .before .before .statement-end .result) e in
-              walks.going-good G some (c .before .before .before .before .before .statement .ensures (x .head) f) (c .before .before .before .before .before .before .before .before .before .before .statement-end .result) e (c .before .enum-told5 .given .1),
-        ),
-      ),
-    )
+list-loop-again-4 t c = (
+  omega (arith, list-room t (c .before .before .before .before .before .before .before .before .before .before)),
+  (
+    c .before .before .before .before .before .statement .kept .1 .1 .1 .1 .1 .0 ∙ c .before .before .before .before .before .before .before .before .before .before .before .before .loop .inv .1 .0,
+    (
+      answer-long (c .before .before .before .before .before .statement .result) (c .before .before .before .before .before .statement .ok),
+      λ t h.
+          let l = c .before .before .before .before .before .before .before .before .before .before .before .before .loop in
+          let G = l .inv .1 .1 .1 t h in
+          let some = c .before .before .before .before .before .before .before .before .before .before .before .loop-test .taken in
+          let x = walks.going-next G some in
+          let e = c .before .before .before .before .before .before .before .before .before .before .statement-end .ensures (x .head) (x .head-is) in
+          let f = walks.going-part G some (c .before .before .before .before .before .before .before .before .before .before .statement-end .result) e in
+          walks.going-good G some (c .before .before .before .before .before .statement .ensures (x .head) f) (c .before .before .before .before .before .before .before .before .before .before .statement-end .result) e (c .before .enum-told5 .given .1),
+    ),
+  ),
+)
 
--- src/walk.rt:89:5
 list-good-requires : (t : ℕ) → list-lts.Need-good-requires (list-claims t) (list-at t) list.Post list-Inv-loop list-μ-loop
 list-good-requires t c κs = tt
 
--- src/walk.rt:46:1
 list-same-length-3 : (t : ℕ) → list-lts.Need-same-length-3 (list-claims t) (list-at t) list.Post list-Inv-loop list-μ-loop
 list-same-length-3 t c = c .before .before .loop .inv .1 .0
 
--- src/walk.rt:46:1
 list-returns-3 : (t : ℕ) → list-lts.Need-returns-3 (list-claims t) (list-at t) list.Post list-Inv-loop list-μ-loop
 list-returns-3 t c =
     λ t h.
@@ -1290,29 +898,42 @@ list-returns-3 t c =
     let j = walks.going-last (l .inv .1 .1 .1 t h) (omega (arith, c .before .loop-test .left)) in
     record { out = c .good2 .ensures ∙ j .out; marks = j .marks }
 
--- src/walk.rt:331:9
+-- what the search found, where it was not refused, and so how many passes are unrolled
+looped-found : (t : ℕ) (c : looped-lts.After-enum-told (looped-claims t) (looped-at t) looped.Post) (u : Unroll) (e : Event) (b : Statements) (h : c .before .before .before .before .before .before .before .before .before .args .words .now ≡ code.statement (While u e b)) → turns-laws.Finds (noted.search (setting (c .before .before .before .before .before .before .before .before .before .args .n) (c .before .before .before .before .before .before .before .before .before .args .unroll)) (c .before .before .before .before .before .before .before .before .before .args .base) e b 100 0 (c .before .before .before .before .before .before .before .before .before .args .state) .answer) (c .before .before .before .before .before .search .result)
+looped-found t c u e b h = turns-laws.finds (noted.search (setting (c .before .before .before .before .before .before .before .before .before .args .n) (c .before .before .before .before .before .before .before .before .before .args .unroll)) (c .before .before .before .before .before .before .before .before .before .args .base) e b 100 0 (c .before .before .before .before .before .before .before .before .before .args .state) .answer) (c .before .before .before .before .before .search .ensures u e b h .out) (sym (c .before .before .refusal .ensures) ∙ c .enum-told .given .1)
+
+looped-many : (t : ℕ) (c : looped-lts.After-unrolls (looped-claims t) (looped-at t) looped.Post) (u : Unroll) (e : Event) (b : Statements) (h : c .before .before .before .before .before .before .before .before .before .before .before .args .words .now ≡ code.statement (While u e b)) → c .unrolls .result ≡ rules.unroll-passes (rules.turns (setting (c .before .before .before .before .before .before .before .before .before .before .before .args .n) (c .before .before .before .before .before .before .before .before .before .before .before .args .unroll)) u) (looped-found t (c .before .before) u e b h .found)
+looped-many t c u e b h = c .unrolls .ensures ∙ ap (λ (k : ℕ). stages.unrolls-by k (c .before .before .before .before .before .before .before .search .result)) (c .before .turns .ensures u e b h) ∙ looped-found t (c .before .before) u e b h .unrolls (rules.turns (setting (c .before .before .before .before .before .before .before .before .before .before .before .args .n) (c .before .before .before .before .before .before .before .before .before .before .before .args .unroll)) u)
+
+-- a loop whose search and unrolled passes were not refused goes on to settle
+looped-turned : (t : ℕ) (c : looped-lts.After-enum-told2 (looped-claims t) (looped-at t) looped.Post) (u : Unroll) (e : Event) (b : Statements) (h : c .before .before .before .before .before .before .before .before .before .before .before .before .before .before .before .before .before .args .words .now ≡ code.statement (While u e b)) →
+    Leads outcomes.looped (noted.loop (setting (c .before .before .before .before .before .before .before .before .before .before .before .before .before .before .before .before .before .args .n) (c .before .before .before .before .before .before .before .before .before .before .before .before .before .before .before .before .before .args .unroll)) (c .before .before .before .before .before .before .before .before .before .before .before .before .before .before .before .before .before .args .base) e b (rules.turns (setting (c .before .before .before .before .before .before .before .before .before .before .before .before .before .before .before .before .before .args .n) (c .before .before .before .before .before .before .before .before .before .before .before .before .before .before .before .before .before .args .unroll)) u) (c .before .before .before .before .before .before .before .before .before .before .before .before .before .before .before .before .before .args .state)) (c .before .before .before .before .before .before .before .before .before .before .before .before .before .before .before .before .before .args .marks .now)
+    (turns-laws.settles (setting (c .before .before .before .before .before .before .before .before .before .before .before .before .before .before .before .before .before .args .n) (c .before .before .before .before .before .before .before .before .before .before .before .before .before .before .before .before .before .args .unroll)) (c .before .before .before .before .before .before .before .before .before .before .before .before .before .before .before .before .before .args .base) e b (rules.turns (setting (c .before .before .before .before .before .before .before .before .before .before .before .before .before .before .before .before .before .args .n) (c .before .before .before .before .before .before .before .before .before .before .before .before .before .before .before .before .before .args .unroll)) u) (c .before .before .before .before .before .before .before .before .before .before .before .before .before .before .before .before .before .args .state) (looped-found t (c .before .before .before .before .before .before .before .before) u e b h .found) (record { next = c .before .before .before .before .unrolled .result .next; exit = c .before .before .before .before .unrolled .result .exit })) (c .before .before .before .before .unrolled .last .1 .1 .1 .1 .1 .1 .0)
+looped-turned t c u e b h =
+    let s = c .before .before .before .before .before .before .before .before .before .before .before .before .before .before .before .before .before in
+    let g = setting (s .args .n) (s .args .unroll) in
+    let U = rules.turns g u in
+    let f = looped-found t (c .before .before .before .before .before .before .before .before) u e b h in
+    leads-then (turns-laws.loop-searched g (s .args .base) e b U (s .args .state) (c .before .before .before .before .before .before .before .before .before .before .before .before .before .search .ensures u e b h) f)
+    (turns-laws.loop-turned g (s .args .base) e b U (s .args .state) (f .found) (c .before .before .before .before .before .before .unrolls .result) (looped-many t (c .before .before .before .before .before .before) u e b h) (c .before .before .before .before .unrolled .ensures u e b h) (c .enum-told2 .given .1))
+
 looped-search-requires : (t : ℕ) → looped-lts.Need-search-requires (looped-claims t) (looped-at t) looped.Post
 looped-search-requires t c κs =
     let s = c .before .before .before in
     (omega (arith, s .pre .0), (s .pre .1 .0, (s .pre .1 .1 .0, (s .pre .1 .1 .1 .0, s .pre .1 .1 .1 .1))))
 
--- src/walk.rt:332:9
 looped-refusal-requires : (t : ℕ) → looped-lts.Need-refusal-requires (looped-claims t) (looped-at t) looped.Post
 looped-refusal-requires t c κs = tt
 
--- src/walk.rt:333:29
 looped-enum-known-searching : (t : ℕ) → looped-lts.Need-enum-known-searching (looped-claims t) (looped-at t) looped.Post
 looped-enum-known-searching t c = search needs
 
--- src/walk.rt:334:9
 looped-no-loop-requires : (t : ℕ) → looped-lts.Need-no-loop-requires (looped-claims t) (looped-at t) looped.Post
 looped-no-loop-requires t c κs = tt
 
--- src/walk.rt:334:9
 looped-same-length : (t : ℕ) → looped-lts.Need-same-length (looped-claims t) (looped-at t) looped.Post
 looped-same-length t c = c .before .before .before .before .before .before .before .search .kept .1 .1 .1 .1 .1 .0
 
--- src/walk.rt:334:9
 looped-returns : (t : ℕ) → looped-lts.Need-returns (looped-claims t) (looped-at t) looped.Post
 looped-returns t c =
     λ u e b h.
@@ -1325,170 +946,125 @@ looped-returns t c =
 looped-enum-told : (t : ℕ) → looped-lts.Need-enum-told (looped-claims t) (looped-at t) looped.Post
 looped-enum-told t c = search needs
 
--- src/walk.rt:336:9
 looped-turns-requires : (t : ℕ) → looped-lts.Need-turns-requires (looped-claims t) (looped-at t) looped.Post
 looped-turns-requires t c κs = c .before .before .before .before .before .before .before .before .before .pre .1 .0
 
--- src/walk.rt:337:9
 looped-unrolls-requires : (t : ℕ) → looped-lts.Need-unrolls-requires (looped-claims t) (looped-at t) looped.Post
 looped-unrolls-requires t c κs = tt
 
--- src/walk.rt:338:9
 looped-unrolled-requires : (t : ℕ) → looped-lts.Need-unrolled-requires (looped-claims t) (looped-at t) looped.Post
 looped-unrolled-requires t c κs =
     let s = c .before .before .before .before .before .before .before .before .before .before .before .before in
     (omega (arith, s .pre .0), (s .pre .1 .0, (s .pre .1 .1 .0, (s .pre .1 .1 .1 .0, omega (arith, s .pre .1 .1 .1 .1, c .before .before .before .before .before .before .before .before .search .kept .1 .1 .1 .1 .1 .0)))))
 
--- src/walk.rt:340:29
 looped-enum-known-turning : (t : ℕ) → looped-lts.Need-enum-known-turning (looped-claims t) (looped-at t) looped.Post
 looped-enum-known-turning t c = search needs
 
--- src/walk.rt:341:9
 looped-no-loop-requires-2 : (t : ℕ) → looped-lts.Need-no-loop-requires-2 (looped-claims t) (looped-at t) looped.Post
 looped-no-loop-requires-2 t c κs = tt
 
--- src/walk.rt:341:9
 looped-same-length-2 : (t : ℕ) → looped-lts.Need-same-length-2 (looped-claims t) (looped-at t) looped.Post
 looped-same-length-2 t c = c .before .before .before .before .before .before .unrolled .kept .1 .1 .1 .1 .1 .1 .0 ∙ c .before .before .before .before .before .before .before .before .before .before .before .before .before .before .before .search .kept .1 .1 .1 .1 .1 .0
 
--- src/walk.rt:341:9
 looped-returns-2 : (t : ℕ) → looped-lts.Need-returns-2 (looped-claims t) (looped-at t) looped.Post
 looped-returns-2 t c =
     λ u e b h.
     let s = c .before .before .before .before .before .before .before .before .before .before .before .before .before .before .before .before .before .before .before in
     let g = setting (s .args .n) (s .args .unroll) in
     let U = rules.turns g u in
-    let q = c .before .before .before .before .before .before .before .before .before .before .before .before .before .before .before .search .ensures u e b h in
-    let f = turns-laws.finds (noted.search g (s .args .base) e b 100 0 (s .args .state) .answer) (q .out) (sym (c .before .before .before .before .before .before .before .before .before .before .before .before .refusal .ensures) ∙ c .before .before .before .before .before .before .before .before .before .before .enum-told .given .1) in
-    let on = turns-laws.loop-searched g (s .args .base) e b U (s .args .state) q f in
-    let own = c .before .before .before .before .before .before .before .before .before .turns .ensures u e b h in
-    let many : c .before .before .before .before .before .before .before .before .unrolls .result ≡ rules.unroll-passes U (f .found) = c .before .before .before .before .before .before .before .before .unrolls .ensures ∙ ap (λ (k : ℕ). stages.unrolls-by k (c .before .before .before .before .before .before .before .before .before .before .before .before .before .before .before .search .result)) own ∙ f .unrolls U in
-    let t = c .before .before .before .before .before .before .unrolled .ensures u e b h in
-    let count = c .before .before .before .before .before .before .before .before .unrolls .result in
-    rw (c .no-loop2 .ensures) (on .on _ _ (turns-laws.loop-unturned g (s .args .base) e b U (s .args .state) (f .found) count many t (c .before .before .turning .given .1)))
+    let f = looped-found t (c .before .before .before .before .before .before .before .before .before .before) u e b h in
+    let on = turns-laws.loop-searched g (s .args .base) e b U (s .args .state) (c .before .before .before .before .before .before .before .before .before .before .before .before .before .before .before .search .ensures u e b h) f in
+    rw (c .no-loop2 .ensures) (on .on _ _ (turns-laws.loop-unturned g (s .args .base) e b U (s .args .state) (f .found) (c .before .before .before .before .before .before .before .before .unrolls .result) (looped-many t (c .before .before .before .before .before .before .before .before) u e b h) (c .before .before .before .before .before .before .unrolled .ensures u e b h) (c .before .before .turning .given .1)))
 
 looped-enum-told-2 : (t : ℕ) → looped-lts.Need-enum-told-2 (looped-claims t) (looped-at t) looped.Post
 looped-enum-told-2 t c = search needs
 
--- src/walk.rt:344:9
 looped-settle-requires : (t : ℕ) → looped-lts.Need-settle-requires (looped-claims t) (looped-at t) looped.Post
 looped-settle-requires t c κs =
     let s = c .before .before .before .before .before .before .before .before .before .before .before .before .before .before .before .before .before .before .before in
     (omega (arith, s .pre .0), (s .pre .1 .0, (s .pre .1 .1 .0, (s .pre .1 .1 .1 .0, omega (arith, s .pre .1 .1 .1 .1, c .before .before .before .before .before .before .before .before .before .before .before .before .before .before .before .search .kept .1 .1 .1 .1 .1 .0, c .before .before .before .before .before .before .unrolled .kept .1 .1 .1 .1 .1 .1 .0)))))
 
--- src/walk.rt:346:29
 looped-enum-known-settling : (t : ℕ) → looped-lts.Need-enum-known-settling (looped-claims t) (looped-at t) looped.Post
 looped-enum-known-settling t c = search needs
 
--- src/walk.rt:347:9
 looped-no-loop-requires-3 : (t : ℕ) → looped-lts.Need-no-loop-requires-3 (looped-claims t) (looped-at t) looped.Post
 looped-no-loop-requires-3 t c κs = tt
 
--- src/walk.rt:347:9
 looped-same-length-3 : (t : ℕ) → looped-lts.Need-same-length-3 (looped-claims t) (looped-at t) looped.Post
 looped-same-length-3 t c = c .before .before .before .before .before .before .settle .kept .1 .1 .1 .1 .1 .0 ∙ c .before .before .before .before .before .before .before .before .before .before .before .before .before .unrolled .kept .1 .1 .1 .1 .1 .1 .0 ∙ c .before .before .before .before .before .before .before .before .before .before .before .before .before .before .before .before .before .before .before .before .before .before .search .kept .1 .1 .1 .1 .1 .0
 
--- src/walk.rt:347:9
 looped-returns-3 : (t : ℕ) → looped-lts.Need-returns-3 (looped-claims t) (looped-at t) looped.Post
 looped-returns-3 t c =
     λ u e b h.
     let s = c .before .before .before .before .before .before .before .before .before .before .before .before .before .before .before .before .before .before .before .before .before .before .before .before .before .before in
     let g = setting (s .args .n) (s .args .unroll) in
     let U = rules.turns g u in
-    let q = c .before .before .before .before .before .before .before .before .before .before .before .before .before .before .before .before .before .before .before .before .before .before .search .ensures u e b h in
-    let f = turns-laws.finds (noted.search g (s .args .base) e b 100 0 (s .args .state) .answer) (q .out) (sym (c .before .before .before .before .before .before .before .before .before .before .before .before .before .before .before .before .before .before .before .refusal .ensures) ∙ c .before .before .before .before .before .before .before .before .before .before .before .before .before .before .before .before .before .enum-told .given .1) in
-    let on = turns-laws.loop-searched g (s .args .base) e b U (s .args .state) q f in
-    let own = c .before .before .before .before .before .before .before .before .before .before .before .before .before .before .before .before .turns .ensures u e b h in
-    let many : c .before .before .before .before .before .before .before .before .before .before .before .before .before .before .before .unrolls .result ≡ rules.unroll-passes U (f .found) = c .before .before .before .before .before .before .before .before .before .before .before .before .before .before .before .unrolls .ensures ∙ ap (λ (k : ℕ). stages.unrolls-by k (c .before .before .before .before .before .before .before .before .before .before .before .before .before .before .before .before .before .before .before .before .before .before .search .result)) own ∙ f .unrolls U in
-    let t = c .before .before .before .before .before .before .before .before .before .before .before .before .before .unrolled .ensures u e b h in
-    let count = c .before .before .before .before .before .before .before .before .before .before .before .before .before .before .before .unrolls .result in
+    let f = looped-found t (c .before .before .before .before .before .before .before .before .before .before .before .before .before .before .before .before .before) u e b h in
     let was : rules.Pass = record { next = c .before .before .before .before .before .before .before .before .before .before .before .before .before .unrolled .result .next; exit = c .before .before .before .before .before .before .before .before .before .before .before .before .before .unrolled .result .exit } in
-    let on2 = leads-then on (turns-laws.loop-turned g (s .args .base) e b U (s .args .state) (f .found) count many t (c .before .before .before .before .before .before .before .before .before .enum-told2 .given .1)) in
+    let on = looped-turned t (c .before .before .before .before .before .before .before .before .before) u e b h in
     let m = c .before .before .before .before .before .before .settle .ensures u e b h in
-    rw (c .no-loop3 .ensures) (on2 .on _ _ (turns-laws.loop-unsettled g (s .args .base) e b U (s .args .state) (f .found) was m (c .before .before .settling .given .1)))
+    rw (c .no-loop3 .ensures) (on .on _ _ (turns-laws.loop-unsettled g (s .args .base) e b U (s .args .state) (f .found) was m (c .before .before .settling .given .1)))
 
 looped-enum-told-3 : (t : ℕ) → looped-lts.Need-enum-told-3 (looped-claims t) (looped-at t) looped.Post
 looped-enum-told-3 t c = search needs
 
--- src/walk.rt:350:9
 looped-leave-requires : (t : ℕ) → looped-lts.Need-leave-requires (looped-claims t) (looped-at t) looped.Post
 looped-leave-requires t c κs =
     let s = c .before .before .before .before .before .before .before .before .before .before .before .before .before .before .before .before .before .before .before .before .before .before .before .before .before in
     (s .pre .1 .0, (s .pre .1 .1 .0, omega (arith, s .pre .1 .1 .1 .1, s .good)))
 
--- src/walk.rt:352:29
 looped-enum-known-leaving : (t : ℕ) → looped-lts.Need-enum-known-leaving (looped-claims t) (looped-at t) looped.Post
 looped-enum-known-leaving t c = search needs
 
--- src/walk.rt:353:9
 looped-no-loop-requires-4 : (t : ℕ) → looped-lts.Need-no-loop-requires-4 (looped-claims t) (looped-at t) looped.Post
 looped-no-loop-requires-4 t c κs = tt
 
--- src/walk.rt:353:9
 looped-same-length-4 : (t : ℕ) → looped-lts.Need-same-length-4 (looped-claims t) (looped-at t) looped.Post
 looped-same-length-4 t c = c .before .before .before .before .before .before .before .before .before .before .settle .kept .1 .1 .1 .1 .1 .0 ∙ c .before .before .before .before .before .before .before .before .before .before .before .before .before .before .before .before .before .unrolled .kept .1 .1 .1 .1 .1 .1 .0 ∙ c .before .before .before .before .before .before .before .before .before .before .before .before .before .before .before .before .before .before .before .before .before .before .before .before .before .before .search .kept .1 .1 .1 .1 .1 .0
 
--- src/walk.rt:353:9
 looped-returns-4 : (t : ℕ) → looped-lts.Need-returns-4 (looped-claims t) (looped-at t) looped.Post
 looped-returns-4 t c =
     λ u e b h.
     let s = c .before .before .before .before .before .before .before .before .before .before .before .before .before .before .before .before .before .before .before .before .before .before .before .before .before .before .before .before .before .before in
     let g = setting (s .args .n) (s .args .unroll) in
     let U = rules.turns g u in
-    let q = c .before .before .before .before .before .before .before .before .before .before .before .before .before .before .before .before .before .before .before .before .before .before .before .before .before .before .search .ensures u e b h in
-    let f = turns-laws.finds (noted.search g (s .args .base) e b 100 0 (s .args .state) .answer) (q .out) (sym (c .before .before .before .before .before .before .before .before .before .before .before .before .before .before .before .before .before .before .before .before .before .before .before .refusal .ensures) ∙ c .before .before .before .before .before .before .before .before .before .before .before .before .before .before .before .before .before .before .before .before .before .enum-told .given .1) in
-    let on = turns-laws.loop-searched g (s .args .base) e b U (s .args .state) q f in
-    let own = c .before .before .before .before .before .before .before .before .before .before .before .before .before .before .before .before .before .before .before .before .turns .ensures u e b h in
-    let many : c .before .before .before .before .before .before .before .before .before .before .before .before .before .before .before .before .before .before .before .unrolls .result ≡ rules.unroll-passes U (f .found) = c .before .before .before .before .before .before .before .before .before .before .before .before .before .before .before .before .before .before .before .unrolls .ensures ∙ ap (λ (k : ℕ). stages.unrolls-by k (c .before .before .before .before .before .before .before .before .before .before .before .before .before .before .before .before .before .before .before .before .before .before .before .before .before .before .search .result)) own ∙ f .unrolls U in
-    let t = c .before .before .before .before .before .before .before .before .before .before .before .before .before .before .before .before .before .unrolled .ensures u e b h in
-    let count = c .before .before .before .before .before .before .before .before .before .before .before .before .before .before .before .before .before .before .before .unrolls .result in
+    let f = looped-found t (c .before .before .before .before .before .before .before .before .before .before .before .before .before .before .before .before .before .before .before .before .before) u e b h in
     let was : rules.Pass = record { next = c .before .before .before .before .before .before .before .before .before .before .before .before .before .before .before .before .before .unrolled .result .next; exit = c .before .before .before .before .before .before .before .before .before .before .before .before .before .before .before .before .before .unrolled .result .exit } in
-    let on2 = leads-then on (turns-laws.loop-turned g (s .args .base) e b U (s .args .state) (f .found) count many t (c .before .before .before .before .before .before .before .before .before .before .before .before .before .enum-told2 .given .1)) in
+    let on = looped-turned t (c .before .before .before .before .before .before .before .before .before .before .before .before .before) u e b h in
     let m = c .before .before .before .before .before .before .before .before .before .before .settle .ensures u e b h in
     let x = c .before .before .before .before .leave .ensures (s .args .unroll) u e b h in
-    rw (c .no-loop4 .ensures) (on2 .on _ _ (turns-laws.loop-unleft g (s .args .base) e b U (s .args .state) (f .found) was m (c .before .before .before .before .before .before .enum-told3 .given .1) (answered-refused _ x (c .before .before .leaving .given .1))))
+    rw (c .no-loop4 .ensures) (on .on _ _ (turns-laws.loop-unleft g (s .args .base) e b U (s .args .state) (f .found) was m (c .before .before .before .before .before .before .enum-told3 .given .1) (answered-refused _ x (c .before .before .leaving .given .1))))
 
 looped-enum-told-4 : (t : ℕ) → looped-lts.Need-enum-told-4 (looped-claims t) (looped-at t) looped.Post
 looped-enum-told-4 t c = search needs
 
--- src/walk.rt:357:9
 looped-join-requires : (t : ℕ) → looped-lts.Need-join-requires (looped-claims t) (looped-at t) looped.Post
 looped-join-requires t c κs = tt
 
--- src/walk.rt:358:51
 looped-searched-requires : (t : ℕ) → looped-lts.Need-searched-requires (looped-claims t) (looped-at t) looped.Post
 looped-searched-requires t c κs =
     let s = c .before .before .before .before .before .before .before .before .before .before .before .before .before .before .before .before .before .before .before .before .before .before .before .before .before .before .before .before .before .before .before in
     let p = s .pre .1 .0 in
     turns-laws.search-few (setting (s .args .n) (s .args .unroll)) (s .args .base) (p .event) (p .body) (s .args .state) (c .before .before .before .before .before .before .before .before .before .before .before .before .before .before .before .before .before .before .before .before .before .before .before .before .before .before .before .search .ensures (p .unroll) (p .event) (p .body) (p .is))
 
--- src/walk.rt:358:5
 looped-loop-answer-requires : (t : ℕ) → looped-lts.Need-loop-answer-requires (looped-claims t) (looped-at t) looped.Post
 looped-loop-answer-requires t c κs = tt
 
--- src/walk.rt:324:1
 looped-same-length-5 : (t : ℕ) → looped-lts.Need-same-length-5 (looped-claims t) (looped-at t) looped.Post
 looped-same-length-5 t c = c .before .before .before .before .before .before .before .before .before .before .before .before .before .settle .kept .1 .1 .1 .1 .1 .0 ∙ c .before .before .before .before .before .before .before .before .before .before .before .before .before .before .before .before .before .before .before .before .unrolled .kept .1 .1 .1 .1 .1 .1 .0 ∙ c .before .before .before .before .before .before .before .before .before .before .before .before .before .before .before .before .before .before .before .before .before .before .before .before .before .before .before .before .before .search .kept .1 .1 .1 .1 .1 .0
 
--- src/walk.rt:324:1
 looped-returns-5 : (t : ℕ) → looped-lts.Need-returns-5 (looped-claims t) (looped-at t) looped.Post
 looped-returns-5 t c =
     λ u e b h.
     let s = c .before .before .before .before .before .before .before .before .before .before .before .before .before .before .before .before .before .before .before .before .before .before .before .before .before .before .before .before .before .before .before .before .before in
     let g = setting (s .args .n) (s .args .unroll) in
     let U = rules.turns g u in
-    let q = c .before .before .before .before .before .before .before .before .before .before .before .before .before .before .before .before .before .before .before .before .before .before .before .before .before .before .before .before .before .search .ensures u e b h in
-    let f = turns-laws.finds (noted.search g (s .args .base) e b 100 0 (s .args .state) .answer) (q .out) (sym (c .before .before .before .before .before .before .before .before .before .before .before .before .before .before .before .before .before .before .before .before .before .before .before .before .before .before .refusal .ensures) ∙ c .before .before .before .before .before .before .before .before .before .before .before .before .before .before .before .before .before .before .before .before .before .before .before .before .enum-told .given .1) in
-    let on = turns-laws.loop-searched g (s .args .base) e b U (s .args .state) q f in
-    let own = c .before .before .before .before .before .before .before .before .before .before .before .before .before .before .before .before .before .before .before .before .before .before .before .turns .ensures u e b h in
-    let many : c .before .before .before .before .before .before .before .before .before .before .before .before .before .before .before .before .before .before .before .before .before .before .unrolls .result ≡ rules.unroll-passes U (f .found) = c .before .before .before .before .before .before .before .before .before .before .before .before .before .before .before .before .before .before .before .before .before .before .unrolls .ensures ∙ ap (λ (k : ℕ). stages.unrolls-by k (c .before .before .before .before .before .before .before .before .before .before .before .before .before .before .before .before .before .before .before .before .before .before .before .before .before .before .before .before .before .search .result)) own ∙ f .unrolls U in
-    let t = c .before .before .before .before .before .before .before .before .before .before .before .before .before .before .before .before .before .before .before .before .unrolled .ensures u e b h in
-    let count = c .before .before .before .before .before .before .before .before .before .before .before .before .before .before .before .before .before .before .before .before .before .before .unrolls .result in
+    let f = looped-found t (c .before .before .before .before .before .before .before .before .before .before .before .before .before .before .before .before .before .before .before .before .before .before .before .before) u e b h in
     let was : rules.Pass = record { next = c .before .before .before .before .before .before .before .before .before .before .before .before .before .before .before .before .before .before .before .before .unrolled .result .next; exit = c .before .before .before .before .before .before .before .before .before .before .before .before .before .before .before .before .before .before .before .before .unrolled .result .exit } in
-    let on2 = leads-then on (turns-laws.loop-turned g (s .args .base) e b U (s .args .state) (f .found) count many t (c .before .before .before .before .before .before .before .before .before .before .before .before .before .before .before .before .enum-told2 .given .1)) in
+    let on = looped-turned t (c .before .before .before .before .before .before .before .before .before .before .before .before .before .before .before .before) u e b h in
     let m = c .before .before .before .before .before .before .before .before .before .before .before .before .before .settle .ensures u e b h in
     let x = c .before .before .before .before .before .before .before .leave .ensures (s .args .unroll) u e b h in
-    rw (c .loop-answer .ensures, c .before .before .join .ensures, c .before .searched .ensures, f .searched, many) (on2 .on _ _ (turns-laws.loop-left g (s .args .base) e b U (s .args .state) (f .found) was m (c .before .before .before .before .before .before .before .before .before .enum-told3 .given .1) (answered-good _ x (c .before .before .before .before .before .enum-told4 .given .1))))
+    rw (c .loop-answer .ensures, c .before .before .join .ensures, c .before .searched .ensures, f .searched, looped-many t (c .before .before .before .before .before .before .before .before .before .before .before .before .before .before .before .before .before .before .before .before .before .before) u e b h) (on .on _ _ (turns-laws.loop-left g (s .args .base) e b U (s .args .state) (f .found) was m (c .before .before .before .before .before .before .before .before .before .enum-told3 .given .1) (answered-good _ x (c .before .before .before .before .before .enum-told4 .given .1))))
 
 abbrev normalize-Inv-loop : normalize-lts.InvT-loop
 normalize-Inv-loop given place body base n unroll marks₀ state v left₀ x₀ joined₀ marks left x joined =
@@ -1498,17 +1074,29 @@ normalize-Inv-loop given place body base n unroll marks₀ state v left₀ x₀ 
 abbrev normalize-μ-loop : normalize-lts.MeasureT-loop
 normalize-μ-loop given place body base n unroll marks₀ state v left₀ x₀ joined₀ marks left x joined = left
 
--- src/walk.rt:381:9
+-- there is a given variable, and the first is one of the 64
+normalize-some : (t : ℕ) (c : normalize-lts.Else1 (normalize-claims t) (normalize-at t) normalize.Post normalize-Inv-loop normalize-μ-loop) → 0 < length (c .before .before .before .before .args .given .now)
+normalize-some t c = let ne = c .if1 .left in omega arith
+
+normalize-first : (t : ℕ) (c : normalize-lts.Else1 (normalize-claims t) (normalize-at t) normalize.Post normalize-Inv-loop normalize-μ-loop) → getD (c .before .before .before .before .args .given .now) 0 0 < 64
+normalize-first t c =
+    let s = c .before .before .before .before in
+    omega (arith, given-laws.first-given (s .args .given .now) (s .pre .1 .0) (normalize-some t c), s .pre .1 .1 .1 .0)
+
+-- its values are those of its range in the state
+normalize-values : (t : ℕ) (c : normalize-lts.After-values (normalize-claims t) (normalize-at t) normalize.Post normalize-Inv-loop normalize-μ-loop) → c .values .result ≡ stages.values-of (c .before .before .before .before .before .before .before .args .t7 .live) (states.get (c .before .before .before .before .before .before .before .args .t7) (getD (c .before .before .before .before .before .before .before .args .given .now) 0 0))
+normalize-values t c =
+    let s = c .before .before .before .before .before .before .before in
+    c .values .ensures .0 ∙ ap (λ (z : Cell). stages.values-of (s .args .t7 .live) (z .range)) (there (s .args .t7 .cells) (getD (s .args .given .now) 0 0) _ (omega (arith, normalize-first t (c .before .before .before), state-long (s .args .t7) (s .good .1 .1 .1 .1 .1 .1 .0))))
+
 normalize-list-requires : (t : ℕ) → normalize-lts.Need-list-requires (normalize-claims t) (normalize-at t) normalize.Post normalize-Inv-loop normalize-μ-loop
 normalize-list-requires t c κs =
     let s = c .before .before .before .before .before in
     (omega (arith, s .pre .0, c .before .if1 .taken), (s .pre .1 .1 .0, (s .pre .1 .1 .1 .0, (s .pre .1 .1 .1 .1 .0, s .pre .1 .1 .1 .1 .1 .1))))
 
--- src/walk.rt:381:9
 normalize-same-length : (t : ℕ) → normalize-lts.Need-same-length (normalize-claims t) (normalize-at t) normalize.Post normalize-Inv-loop normalize-μ-loop
 normalize-same-length t c = c .before .before .list .kept .1 .1 .1 .1 .1 .0
 
--- src/walk.rt:381:9
 normalize-returns : (t : ℕ) → normalize-lts.Need-returns (normalize-claims t) (normalize-at t) normalize.Post normalize-Inv-loop normalize-μ-loop
 normalize-returns t c =
     λ b h.
@@ -1516,91 +1104,55 @@ normalize-returns t c =
     let g = setting (s .args .n) (s .args .unroll) in
     given-laws.nothing-given g (s .args .place) (s .args .base) b (s .args .t7) (s .args .given .now) (c .before .before .before .before .if1 .taken) (c .before .before .list .ensures b h)
 
--- src/walk.rt:383:13
 normalize-shared-slice-read-v : (t : ℕ) → normalize-lts.Need-shared-slice-read-v (normalize-claims t) (normalize-at t) normalize.Post normalize-Inv-loop normalize-μ-loop
-normalize-shared-slice-read-v t c =
-    let s = c .before .before .before .before .before in
-    let ne = c .before .if1 .left in
-    let some : 0 < length (s .args .given .now) = omega arith in
-    some
+normalize-shared-slice-read-v t c = normalize-some t (c .before)
 
--- src/walk.rt:384:16
 normalize-mul-cell : (t : ℕ) → normalize-lts.Need-mul-cell (normalize-claims t) (normalize-at t) normalize.Post normalize-Inv-loop normalize-μ-loop
-normalize-mul-cell t c =
-    let s = c .before .before .before .before .before in
-    let ne = c .before .if1 .left in
-    let some : 0 < length (s .args .given .now) = omega arith in
-    let b = given-laws.first-given (s .args .given .now) (s .pre .1 .0) some in
-    omega (arith, s .pre .1 .1 .1 .0)
+normalize-mul-cell t c = omega (arith, normalize-first t (c .before))
 
--- src/walk.rt:384:16
 normalize-element-copy-out-cell : (t : ℕ) → normalize-lts.Need-element-copy-out-cell (normalize-claims t) (normalize-at t) normalize.Post normalize-Inv-loop normalize-μ-loop
-normalize-element-copy-out-cell t c =
-    let s = c .before .before .before .before .before in
-    let ne = c .before .if1 .left in
-    let some : 0 < length (s .args .given .now) = omega arith in
-    let b = given-laws.first-given (s .args .given .now) (s .pre .1 .0) some in
-    omega (arith, s .pre .1 .1 .1 .0)
+normalize-element-copy-out-cell t c = omega (arith, normalize-first t (c .before))
 
--- src/walk.rt:386:9
 normalize-values-requires : (t : ℕ) → normalize-lts.Need-values-requires (normalize-claims t) (normalize-at t) normalize.Post normalize-Inv-loop normalize-μ-loop
 normalize-values-requires t c κs = tt
 
--- src/walk.rt:391:13
 normalize-enum-told : (t : ℕ) → normalize-lts.Need-enum-told (normalize-claims t) (normalize-at t) normalize.Post normalize-Inv-loop normalize-μ-loop
 normalize-enum-told t c = search needs
 
--- src/walk.rt:391:13
 normalize-refused-requires : (t : ℕ) → normalize-lts.Need-refused-requires (normalize-claims t) (normalize-at t) normalize.Post normalize-Inv-loop normalize-μ-loop
 normalize-refused-requires t c κs = tt
 
--- src/walk.rt:391:13
 normalize-returns-2 : (t : ℕ) → normalize-lts.Need-returns-2 (normalize-claims t) (normalize-at t) normalize.Post normalize-Inv-loop normalize-μ-loop
 normalize-returns-2 t c =
     λ b h.
     let s = c .before .before .before .before .before .before .before .before .before .before in
-    let ne = c .before .before .before .before .before .before .if1 .left in
-    let some : 0 < length (s .args .given .now) = omega arith in
-    let low = given-laws.first-given (s .args .given .now) (s .pre .1 .0) some in
     let g = setting (s .args .n) (s .args .unroll) in
-    let q = c .before .before .before .values .ensures .0 ∙ ap (λ (z : Cell). stages.values-of (s .args .t7 .live) (z .range)) (there (s .args .t7 .cells) (getD (s .args .given .now) 0 0) _ (omega (arith, s .pre .1 .1 .1 .0, state-long (s .args .t7) (s .good .1 .1 .1 .1 .1 .1 .0)))) in
-    let j = given-laws.as-list g (s .args .place) (s .args .base) b (s .args .t7) (s .args .given .now) some (given-laws.given-unbounded g (s .args .place) (s .args .base) b (s .args .t7) (getD (s .args .given .now) 0 0) (take (length (s .args .given .now) - 1) (drop 1 (s .args .given .now))) (s .args .marks .now) q (c .before .enum-told .given .1)) in
+    let j = given-laws.as-list g (s .args .place) (s .args .base) b (s .args .t7) (s .args .given .now) (normalize-some t (c .before .before .before .before .before .before)) (given-laws.given-unbounded g (s .args .place) (s .args .base) b (s .args .t7) (getD (s .args .given .now) 0 0) (take (length (s .args .given .now) - 1) (drop 1 (s .args .given .now))) (s .args .marks .now) (normalize-values t (c .before .before .before)) (c .before .enum-told .given .1)) in
     record { out = c .refused .ensures ∙ j .out; marks = j .marks }
 
--- src/walk.rt:394:13
 normalize-enum-told-2 : (t : ℕ) → normalize-lts.Need-enum-told-2 (normalize-claims t) (normalize-at t) normalize.Post normalize-Inv-loop normalize-μ-loop
 normalize-enum-told-2 t c = search needs
 
--- src/walk.rt:394:13
 normalize-refused-requires-2 : (t : ℕ) → normalize-lts.Need-refused-requires-2 (normalize-claims t) (normalize-at t) normalize.Post normalize-Inv-loop normalize-μ-loop
 normalize-refused-requires-2 t c κs = tt
 
--- src/walk.rt:394:13
 normalize-returns-3 : (t : ℕ) → normalize-lts.Need-returns-3 (normalize-claims t) (normalize-at t) normalize.Post normalize-Inv-loop normalize-μ-loop
 normalize-returns-3 t c =
     λ b h.
     let s = c .before .before .before .before .before .before .before .before .before .before in
-    let ne = c .before .before .before .before .before .before .if1 .left in
-    let some : 0 < length (s .args .given .now) = omega arith in
-    let low = given-laws.first-given (s .args .given .now) (s .pre .1 .0) some in
     let g = setting (s .args .n) (s .args .unroll) in
-    let q = c .before .before .before .values .ensures .0 ∙ ap (λ (z : Cell). stages.values-of (s .args .t7 .live) (z .range)) (there (s .args .t7 .cells) (getD (s .args .given .now) 0 0) _ (omega (arith, s .pre .1 .1 .1 .0, state-long (s .args .t7) (s .good .1 .1 .1 .1 .1 .1 .0)))) in
-    let j = given-laws.as-list g (s .args .place) (s .args .base) b (s .args .t7) (s .args .given .now) some (given-laws.given-too-many g (s .args .place) (s .args .base) b (s .args .t7) (getD (s .args .given .now) 0 0) (take (length (s .args .given .now) - 1) (drop 1 (s .args .given .now))) (s .args .marks .now) q (c .before .enum-told2 .given .1)) in
+    let j = given-laws.as-list g (s .args .place) (s .args .base) b (s .args .t7) (s .args .given .now) (normalize-some t (c .before .before .before .before .before .before)) (given-laws.given-too-many g (s .args .place) (s .args .base) b (s .args .t7) (getD (s .args .given .now) 0 0) (take (length (s .args .given .now) - 1) (drop 1 (s .args .given .now))) (s .args .marks .now) (normalize-values t (c .before .before .before)) (c .before .enum-told2 .given .1)) in
     record { out = c .refused2 .ensures ∙ j .out; marks = j .marks }
 
--- src/walk.rt:396:22
 normalize-enum-known-values : (t : ℕ) → normalize-lts.Need-enum-known-values (normalize-claims t) (normalize-at t) normalize.Post normalize-Inv-loop normalize-μ-loop
 normalize-enum-known-values t c = search needs
 
--- src/walk.rt:398:17
 normalize-cast-x : (t : ℕ) → normalize-lts.Need-cast-x (normalize-claims t) (normalize-at t) normalize.Post normalize-Inv-loop normalize-μ-loop
 normalize-cast-x t c = omega (arith, c .before .before .before .values .ensures .1 (c .before .values2 .given .0 .0) (c .before .values2 .given .0 .1 .0) (c .before .values2 .given .1))
 
--- src/walk.rt:401:9
 normalize-empty-requires : (t : ℕ) → normalize-lts.Need-empty-requires (normalize-claims t) (normalize-at t) normalize.Post normalize-Inv-loop normalize-μ-loop
 normalize-empty-requires t c κs = tt
 
--- src/walk.rt:402:5
 normalize-loop-holds : (t : ℕ) → normalize-lts.Need-loop-holds (normalize-claims t) (normalize-at t) normalize.Post normalize-Inv-loop normalize-μ-loop
 normalize-loop-holds t c =
     let s = c .before .before .before .before .before .before .before .before .before .before .before in
@@ -1612,82 +1164,43 @@ normalize-loop-holds t c =
         (
           given-laws.from-live (s .args .t7 .live) _ (sym (told .1) ∙ v .0),
           λ b h.
-              let s = c .before .before .before .before .before .before .before .before .before .before .before in
-              let ne = c .before .before .before .before .before .before .before .if1 .left in
-              let some : 0 < length (s .args .given .now) = omega arith in
-              let low = given-laws.first-given (s .args .given .now) (s .pre .1 .0) some in
               let g = setting (s .args .n) (s .args .unroll) in
-              let q = c .before .before .before .before .values .ensures .0 ∙ ap (λ (z : Cell). stages.values-of (s .args .t7 .live) (z .range)) (there (s .args .t7 .cells) (getD (s .args .given .now) 0 0) _ (omega (arith, s .pre .1 .1 .1 .0, state-long (s .args .t7) (s .good .1 .1 .1 .1 .1 .1 .0)))) in
-              rw (c .empty .ensures) (given-laws.given-leads g (s .args .place) (s .args .base) b (s .args .t7) (s .args .given .now) some (s .args .marks .now) q (told .1)),
+              rw (c .empty .ensures) (given-laws.given-leads g (s .args .place) (s .args .base) b (s .args .t7) (s .args .given .now) (normalize-some t (c .before .before .before .before .before .before .before)) (s .args .marks .now) (normalize-values t (c .before .before .before .before)) (told .1)),
         ),
       ),
     )
 
--- src/walk.rt:405:32
 normalize-cast-t35 : (t : ℕ) → normalize-lts.Need-cast-t35 (normalize-claims t) (normalize-at t) normalize.Post normalize-Inv-loop normalize-μ-loop
 normalize-cast-t35 t c = omega (arith, c .before .loop .inv .1 .0, c .loop-test .taken)
 
--- src/walk.rt:405:50
 normalize-cast-t36 : (t : ℕ) → normalize-lts.Need-cast-t36 (normalize-claims t) (normalize-at t) normalize.Post normalize-Inv-loop normalize-μ-loop
 normalize-cast-t36 t c = omega (arith, c .before .loop .inv .1 .0, c .loop-test .taken)
 
--- src/walk.rt:404:9
 normalize-mul-t40 : (t : ℕ) → normalize-lts.Need-mul-t40 (normalize-claims t) (normalize-at t) normalize.Post normalize-Inv-loop normalize-μ-loop
-normalize-mul-t40 t c =
-    let s = c .before .before .before .before .before .before .before .before .before .before .before .before .before in
-    let ne = c .before .before .before .before .before .before .before .before .before .if1 .left in
-    let some : 0 < length (s .args .given .now) = omega arith in
-    let b = given-laws.first-given (s .args .given .now) (s .pre .1 .0) some in
-    omega (arith, s .pre .1 .1 .1 .0)
+normalize-mul-t40 t c = omega (arith, normalize-first t (c .before .before .before .before .before .before .before .before .before))
 
--- src/walk.rt:404:9
 normalize-element-set-from-s : (t : ℕ) → normalize-lts.Need-element-set-from-s (normalize-claims t) (normalize-at t) normalize.Post normalize-Inv-loop normalize-μ-loop
-normalize-element-set-from-s t c =
-    let s = c .before .before .before .before .before .before .before .before .before .before .before .before .before in
-    let ne = c .before .before .before .before .before .before .before .before .before .if1 .left in
-    let some : 0 < length (s .args .given .now) = omega arith in
-    let b = given-laws.first-given (s .args .given .now) (s .pre .1 .0) some in
-    omega (arith, s .pre .1 .1 .1 .0)
+normalize-element-set-from-s t c = omega (arith, normalize-first t (c .before .before .before .before .before .before .before .before .before))
 
--- src/walk.rt:407:27
 normalize-sub-normalize : (t : ℕ) → normalize-lts.Need-sub-normalize (normalize-claims t) (normalize-at t) normalize.Post normalize-Inv-loop normalize-μ-loop
-normalize-sub-normalize t c =
-    let s = c .before .before .before .before .before .before .before .before .before .before .before .before .before in
-    let ne = c .before .before .before .before .before .before .before .before .before .if1 .left in
-    let some : 0 < length (s .args .given .now) = omega arith in
-    omega arith
+normalize-sub-normalize t c = omega (arith, normalize-some t (c .before .before .before .before .before .before .before .before .before))
 
--- src/walk.rt:407:27
 normalize-part-normalize-start : (t : ℕ) → normalize-lts.Need-part-normalize-start (normalize-claims t) (normalize-at t) normalize.Post normalize-Inv-loop normalize-μ-loop
-normalize-part-normalize-start t c =
-    let s = c .before .before .before .before .before .before .before .before .before .before .before .before .before in
-    let ne = c .before .before .before .before .before .before .before .before .before .if1 .left in
-    let some : 0 < length (s .args .given .now) = omega arith in
-    omega arith
+normalize-part-normalize-start t c = omega (arith, normalize-some t (c .before .before .before .before .before .before .before .before .before))
 
--- src/walk.rt:407:27
 normalize-part-normalize-end : (t : ℕ) → normalize-lts.Need-part-normalize-end (normalize-claims t) (normalize-at t) normalize.Post normalize-Inv-loop normalize-μ-loop
-normalize-part-normalize-end t c =
-    let s = c .before .before .before .before .before .before .before .before .before .before .before .before .before in
-    let ne = c .before .before .before .before .before .before .before .before .before .if1 .left in
-    let some : 0 < length (s .args .given .now) = omega arith in
-    omega arith
+normalize-part-normalize-end t c = omega (arith, normalize-some t (c .before .before .before .before .before .before .before .before .before))
 
--- src/walk.rt:407:40
 normalize-add-normalize : (t : ℕ) → normalize-lts.Need-add-normalize (normalize-claims t) (normalize-at t) normalize.Post normalize-Inv-loop normalize-μ-loop
 normalize-add-normalize t c =
     let s = c .before .before .before .before .before .before .before .before .before .before .before .before .before .before in
-    let ne = c .before .before .before .before .before .before .before .before .before .before .if1 .left in
-    let some : 0 < length (s .args .given .now) = omega arith in
-    omega (arith, s .pre .1 .1 .1 .1 .1 .0, s .good)
+    omega (arith, normalize-some t (c .before .before .before .before .before .before .before .before .before .before), s .pre .1 .1 .1 .1 .1 .0, s .good)
 
--- src/walk.rt:407:13
 normalize-normalize-requires : (t : ℕ) → normalize-lts.Need-normalize-requires (normalize-claims t) (normalize-at t) normalize.Post normalize-Inv-loop normalize-μ-loop
 normalize-normalize-requires t c κs =
     let s = c .before .before .before .before .before .before .before .before .before .before .before .before .before .before .before in
-    let ne = c .before .before .before .before .before .before .before .before .before .before .before .if1 .left in
-    let some : 0 < length (s .args .given .now) = omega arith in
     let l = s .args .given .now in
+    let some = normalize-some t (c .before .before .before .before .before .before .before .before .before .before .before) in
     let rest : length (take (length l - 1) (drop 1 l)) ≡ length l - 1 = (let e = ap length (given-laws.first-and-rest l some) in omega arith) in (
       omega (arith, rest, s .pre .0),
       (
@@ -1705,15 +1218,12 @@ normalize-normalize-requires t c κs =
       ),
     )
 
--- src/walk.rt:410:13
 normalize-enum-told-3 : (t : ℕ) → normalize-lts.Need-enum-told-3 (normalize-claims t) (normalize-at t) normalize.Post normalize-Inv-loop normalize-μ-loop
 normalize-enum-told-3 t c = search needs
 
--- src/walk.rt:410:13
 normalize-same-length-2 : (t : ℕ) → normalize-lts.Need-same-length-2 (normalize-claims t) (normalize-at t) normalize.Post normalize-Inv-loop normalize-μ-loop
 normalize-same-length-2 t c = c .before .before .before .before .normalize .kept .1 .1 .1 .1 .1 .1 .1 .0 ∙ c .before .before .before .before .before .before .before .before .loop .inv .0
 
--- src/walk.rt:410:13
 normalize-returns-4 : (t : ℕ) → normalize-lts.Need-returns-4 (normalize-claims t) (normalize-at t) normalize.Post normalize-Inv-loop normalize-μ-loop
 normalize-returns-4 t c =
     λ b h.
@@ -1729,23 +1239,18 @@ normalize-returns-4 t c =
 normalize-enum-told-4 : (t : ℕ) → normalize-lts.Need-enum-told-4 (normalize-claims t) (normalize-at t) normalize.Post normalize-Inv-loop normalize-μ-loop
 normalize-enum-told-4 t c = search needs
 
--- src/walk.rt:413:9
 normalize-join-requires : (t : ℕ) → normalize-lts.Need-join-requires (normalize-claims t) (normalize-at t) normalize.Post normalize-Inv-loop normalize-μ-loop
 normalize-join-requires t c κs = tt
 
--- src/walk.rt:414:9
 normalize-add-x : (t : ℕ) → normalize-lts.Need-add-x (normalize-claims t) (normalize-at t) normalize.Post normalize-Inv-loop normalize-μ-loop
 normalize-add-x t c = omega (arith, c .before .before .before .before .before .before .before .before .before .before .loop .inv .1 .0)
 
--- src/walk.rt:415:9
 normalize-sub-left : (t : ℕ) → normalize-lts.Need-sub-left (normalize-claims t) (normalize-at t) normalize.Post normalize-Inv-loop normalize-μ-loop
 normalize-sub-left t c = omega (arith, c .before .before .before .before .before .before .before .before .before .loop-test .taken)
 
--- src/walk.rt:402:5
 normalize-loop-less : (t : ℕ) → normalize-lts.Need-loop-less (normalize-claims t) (normalize-at t) normalize.Post normalize-Inv-loop normalize-μ-loop
 normalize-loop-less t c = omega (arith, c .before .before .before .before .before .before .before .before .before .loop-test .taken)
 
--- src/walk.rt:402:5
 normalize-loop-again : (t : ℕ) → normalize-lts.Need-loop-again (normalize-claims t) (normalize-at t) normalize.Post normalize-Inv-loop normalize-μ-loop
 normalize-loop-again t c = (
   c .before .before .before .before .before .before .normalize .kept .1 .1 .1 .1 .1 .1 .1 .0 ∙ c .before .before .before .before .before .before .before .before .before .before .loop .inv .0,
@@ -1766,15 +1271,12 @@ normalize-loop-again t c = (
   ),
 )
 
--- src/walk.rt:417:5
 normalize-good-requires : (t : ℕ) → normalize-lts.Need-good-requires (normalize-claims t) (normalize-at t) normalize.Post normalize-Inv-loop normalize-μ-loop
 normalize-good-requires t c κs = tt
 
--- src/walk.rt:362:1
 normalize-same-length-3 : (t : ℕ) → normalize-lts.Need-same-length-3 (normalize-claims t) (normalize-at t) normalize.Post normalize-Inv-loop normalize-μ-loop
 normalize-same-length-3 t c = c .before .before .loop .inv .0
 
--- src/walk.rt:362:1
 normalize-returns-5 : (t : ℕ) → normalize-lts.Need-returns-5 (normalize-claims t) (normalize-at t) normalize.Post normalize-Inv-loop normalize-μ-loop
 normalize-returns-5 t c =
     λ b h.
@@ -1786,46 +1288,37 @@ normalize-returns-5 t c =
     let none : l .left ≡ 0 = omega (arith, c .before .loop-test .left) in
     rw (c .good2 .ensures) (l .inv .1 .1 .1 b h .on _ _ (given-laws.no-value g (s .args .place) (s .args .base) b (s .args .t7) v vs (l .left) none (l .x) (l .joined) (l .marks)))
 
--- src/walk.rt:165:9
+-- the parts of a loop that the words are
+pass-parts : (t : ℕ) (c : pass-lts.After-event-end (pass-claims t) (pass-at t) pass.Post) (u : Unroll) (e : Event) (b : Statements) → c .before .before .before .args .words .now ≡ code.statement (While u e b) → LoopCut (c .before .before .before .args .words .now) (c .event-end .result) e b
+pass-parts t c u e b h = loop-cut (c .before .before .before .args .words .now) u e b h (c .event-end .result) (c .event-end .ensures)
+
+-- where the body of a loop stands, within the words and the marks
+pass-room : (t : ℕ) (c : pass-lts.After-event-end (pass-claims t) (pass-at t) pass.Post) →
+    (3 < c .event-end .result) × ((c .event-end .result < length (c .before .before .before .args .words .now)) ×
+    (Room (c .before .before .before .args .base) (c .before .before .before .args .words .now) (c .before .before .before .args .marks .now)))
+pass-room t c =
+    let s = c .before .before .before in
+    let k = loop-inside (s .pre .1 .0) (c .event-end .result) (c .event-end .ensures) in
+    (k .some, (omega (arith, k .whole), (s .pre .1 .1 .1 .1, (omega (arith, s .good .0 .0, s .good .0 .1), omega (arith, s .pre .1 .1 .1 .1, s .good)))))
+
 pass-event-end-requires : (t : ℕ) → pass-lts.Need-event-end-requires (pass-claims t) (pass-at t) pass.Post
 pass-event-end-requires t c κs =
     let s = c .before .before in
     let p = s .pre .1 .0 in
     loop-event (s .args .words .now) (p .unroll) (p .event) (p .body) (p .is)
 
--- src/walk.rt:166:26
 pass-sub-sides : (t : ℕ) → pass-lts.Need-sub-sides (pass-claims t) (pass-at t) pass.Post
-pass-sub-sides t c =
-    let s = c .before .before .before in
-    let p = s .pre .1 .0 in
-    let k = loop-inside p (c .event-end .result) (c .event-end .ensures) in
-    omega (arith, k .some, k .p-is, k .whole, s .good .0 .0, s .good .0 .1, s .pre .1 .1 .1 .1)
+pass-sub-sides t c = omega (arith, pass-room t c)
 
--- src/walk.rt:166:26
 pass-part-sides-start : (t : ℕ) → pass-lts.Need-part-sides-start (pass-claims t) (pass-at t) pass.Post
-pass-part-sides-start t c =
-    let s = c .before .before .before in
-    let p = s .pre .1 .0 in
-    let k = loop-inside p (c .event-end .result) (c .event-end .ensures) in
-    omega (arith, k .some, k .p-is, k .whole, s .good .0 .0, s .good .0 .1, s .pre .1 .1 .1 .1)
+pass-part-sides-start t c = omega (arith, pass-room t c)
 
--- src/walk.rt:166:26
 pass-part-sides-end : (t : ℕ) → pass-lts.Need-part-sides-end (pass-claims t) (pass-at t) pass.Post
-pass-part-sides-end t c =
-    let s = c .before .before .before in
-    let p = s .pre .1 .0 in
-    let k = loop-inside p (c .event-end .result) (c .event-end .ensures) in
-    omega (arith, k .some, k .p-is, k .whole, s .good .0 .0, s .good .0 .1, s .pre .1 .1 .1 .1)
+pass-part-sides-end t c = omega (arith, pass-room t c)
 
--- src/walk.rt:166:43
 pass-add-sides : (t : ℕ) → pass-lts.Need-add-sides (pass-claims t) (pass-at t) pass.Post
-pass-add-sides t c =
-    let s = c .before .before .before .before in
-    let p = s .pre .1 .0 in
-    let k = loop-inside p (c .before .event-end .result) (c .before .event-end .ensures) in
-    omega (arith, k .some, k .p-is, k .whole, s .good .0 .0, s .good .0 .1, s .pre .1 .1 .1 .1)
+pass-add-sides t c = omega (arith, pass-room t (c .before))
 
--- src/walk.rt:166:9
 pass-sides-requires : (t : ℕ) → pass-lts.Need-sides-requires (pass-claims t) (pass-at t) pass.Post
 pass-sides-requires t c κs =
     let s = c .before .before .before .before in
@@ -1835,21 +1328,18 @@ pass-sides-requires t c κs =
       (s .pre .1 .1 .0, omega (arith, ap length (k .event-part), k .p-is, k .whole, s .pre .1 .1 .1 .1, s .good)),
     )
 
--- src/walk.rt:168:29
 pass-enum-known-verdict : (t : ℕ) → pass-lts.Need-enum-known-verdict (pass-claims t) (pass-at t) pass.Post
 pass-enum-known-verdict t c = search needs
 
--- src/walk.rt:169:9
 pass-stopped-requires : (t : ℕ) → pass-lts.Need-stopped-requires (pass-claims t) (pass-at t) pass.Post
 pass-stopped-requires t c κs = tt
 
--- src/walk.rt:169:9
 pass-returns : (t : ℕ) → pass-lts.Need-returns (pass-claims t) (pass-at t) pass.Post
 pass-returns t c =
     λ u e b h.
     let s = c .before .before .before .before .before .before .before .before .before in
     let g = setting (s .args .n) (s .args .unroll) in
-    let k = loop-cut (s .args .words .now) u e b h (c .before .before .before .before .before .before .event-end .result) (c .before .before .before .before .before .before .event-end .ensures) in
+    let k = pass-parts t (c .before .before .before .before .before .before) u e b h in
     let o = c .before .before .before .before .sides .ensures (s .args .unroll) e (k .event-part) in
     let j = walks.pass-unsplit g (s .args .base) e b k (s .args .state) (c .before .before .before .before .sides .result) o (s .args .marks .now) (c .before .before .verdict .given .1) in
     record { out = c .stopped .ensures ∙ j .out; marks = j .marks }
@@ -1857,63 +1347,27 @@ pass-returns t c =
 pass-enum-told : (t : ℕ) → pass-lts.Need-enum-told (pass-claims t) (pass-at t) pass.Post
 pass-enum-told t c = search needs
 
--- src/walk.rt:173:17
 pass-add-mark : (t : ℕ) → pass-lts.Need-add-mark (pass-claims t) (pass-at t) pass.Post
-pass-add-mark t c =
-    let s = c .before .before .before .before .before .before .before .before .before .before in
-    let p = s .pre .1 .0 in
-    let k = loop-inside p (c .before .before .before .before .before .before .before .event-end .result) (c .before .before .before .before .before .before .before .event-end .ensures) in
-    omega (arith, k .some, k .p-is, k .whole, s .good .0 .0, s .good .0 .1, s .pre .1 .1 .1 .1)
+pass-add-mark t c = omega (arith, pass-room t (c .before .before .before .before .before .before .before))
 
--- src/walk.rt:173:5
 pass-mark-requires : (t : ℕ) → pass-lts.Need-mark-requires (pass-claims t) (pass-at t) pass.Post
-pass-mark-requires t c κs =
-    let s = c .before .before .before .before .before .before .before .before .before .before in
-    let p = s .pre .1 .0 in
-    let k = loop-inside p (c .before .before .before .before .before .before .before .event-end .result) (c .before .before .before .before .before .before .before .event-end .ensures) in
-    omega (arith, k .some, k .p-is, k .whole, s .pre .1 .1 .1 .1)
+pass-mark-requires t c κs = omega (arith, pass-room t (c .before .before .before .before .before .before .before))
 
--- src/walk.rt:174:18
 pass-mul-list : (t : ℕ) → pass-lts.Need-mul-list (pass-claims t) (pass-at t) pass.Post
-pass-mul-list t c =
-    let s = c .before .before .before .before .before .before .before .before .before .before .before .before .before in
-    let p = s .pre .1 .0 in
-    let k = loop-inside p (c .before .before .before .before .before .before .before .before .before .before .event-end .result) (c .before .before .before .before .before .before .before .before .before .before .event-end .ensures) in
-    omega (arith, k .some, k .p-is, k .whole, s .good .0 .0, s .good .0 .1, s .pre .1 .1 .1 .1)
+pass-mul-list t c = omega (arith, pass-room t (c .before .before .before .before .before .before .before .before .before .before))
 
--- src/walk.rt:174:18
 pass-sub-list : (t : ℕ) → pass-lts.Need-sub-list (pass-claims t) (pass-at t) pass.Post
-pass-sub-list t c =
-    let s = c .before .before .before .before .before .before .before .before .before .before .before .before .before in
-    let p = s .pre .1 .0 in
-    let k = loop-inside p (c .before .before .before .before .before .before .before .before .before .before .event-end .result) (c .before .before .before .before .before .before .before .before .before .before .event-end .ensures) in
-    omega (arith, k .some, k .p-is, k .whole, s .good .0 .0, s .good .0 .1, s .pre .1 .1 .1 .1)
+pass-sub-list t c = omega (arith, pass-room t (c .before .before .before .before .before .before .before .before .before .before))
 
--- src/walk.rt:174:18
 pass-part-list-start : (t : ℕ) → pass-lts.Need-part-list-start (pass-claims t) (pass-at t) pass.Post
-pass-part-list-start t c =
-    let s = c .before .before .before .before .before .before .before .before .before .before .before .before .before in
-    let p = s .pre .1 .0 in
-    let k = loop-inside p (c .before .before .before .before .before .before .before .before .before .before .event-end .result) (c .before .before .before .before .before .before .before .before .before .before .event-end .ensures) in
-    omega (arith, k .some, k .p-is, k .whole, s .good .0 .0, s .good .0 .1, s .pre .1 .1 .1 .1)
+pass-part-list-start t c = omega (arith, pass-room t (c .before .before .before .before .before .before .before .before .before .before))
 
--- src/walk.rt:174:18
 pass-part-list-end : (t : ℕ) → pass-lts.Need-part-list-end (pass-claims t) (pass-at t) pass.Post
-pass-part-list-end t c =
-    let s = c .before .before .before .before .before .before .before .before .before .before .before .before .before in
-    let p = s .pre .1 .0 in
-    let k = loop-inside p (c .before .before .before .before .before .before .before .before .before .before .event-end .result) (c .before .before .before .before .before .before .before .before .before .before .event-end .ensures) in
-    omega (arith, k .some, k .p-is, k .whole, s .good .0 .0, s .good .0 .1, s .pre .1 .1 .1 .1)
+pass-part-list-end t c = omega (arith, pass-room t (c .before .before .before .before .before .before .before .before .before .before))
 
--- src/walk.rt:174:34
 pass-add-list : (t : ℕ) → pass-lts.Need-add-list (pass-claims t) (pass-at t) pass.Post
-pass-add-list t c =
-    let s = c .before .before .before .before .before .before .before .before .before .before .before .before .before .before in
-    let p = s .pre .1 .0 in
-    let k = loop-inside p (c .before .before .before .before .before .before .before .before .before .before .before .event-end .result) (c .before .before .before .before .before .before .before .before .before .before .before .event-end .ensures) in
-    omega (arith, k .some, k .p-is, k .whole, s .good .0 .0, s .good .0 .1, s .pre .1 .1 .1 .1)
+pass-add-list t c = omega (arith, pass-room t (c .before .before .before .before .before .before .before .before .before .before .before))
 
--- src/walk.rt:174:9
 pass-list-requires : (t : ℕ) → pass-lts.Need-list-requires (pass-claims t) (pass-at t) pass.Post
 pass-list-requires t c κs =
     let s = c .before .before .before .before .before .before .before .before .before .before .before .before .before .before .before in
@@ -1926,25 +1380,21 @@ pass-list-requires t c κs =
       ),
     )
 
--- src/walk.rt:176:29
 pass-enum-known-after : (t : ℕ) → pass-lts.Need-enum-known-after (pass-claims t) (pass-at t) pass.Post
 pass-enum-known-after t c = search needs
 
--- src/walk.rt:177:9
 pass-stopped-requires-2 : (t : ℕ) → pass-lts.Need-stopped-requires-2 (pass-claims t) (pass-at t) pass.Post
 pass-stopped-requires-2 t c κs = tt
 
--- src/walk.rt:177:9
 pass-same-length : (t : ℕ) → pass-lts.Need-same-length (pass-claims t) (pass-at t) pass.Post
 pass-same-length t c = c .before .before .before .before .before .before .list .kept .1 .1 .1 .1 .1 .0 ∙ c .before .before .before .before .before .before .before .before .before .before .before .mark .kept .0
 
--- src/walk.rt:177:9
 pass-returns-2 : (t : ℕ) → pass-lts.Need-returns-2 (pass-claims t) (pass-at t) pass.Post
 pass-returns-2 t c =
     λ u e b h.
     let s = c .before .before .before .before .before .before .before .before .before .before .before .before .before .before .before .before .before .before .before .before .before .before in
     let g = setting (s .args .n) (s .args .unroll) in
-    let k = loop-cut (s .args .words .now) u e b h (c .before .before .before .before .before .before .before .before .before .before .before .before .before .before .before .before .before .before .before .event-end .result) (c .before .before .before .before .before .before .before .before .before .before .before .before .before .before .before .before .before .before .before .event-end .ensures) in
+    let k = pass-parts t (c .before .before .before .before .before .before .before .before .before .before .before .before .before .before .before .before .before .before .before) u e b h in
     let o = c .before .before .before .before .before .before .before .before .before .before .before .before .before .before .before .before .before .sides .ensures (s .args .unroll) e (k .event-part) in
     let w = c .before .before .before .before .before .before .list .ensures b (k .body-part) in
     let j = walks.pass-body-refused g (s .args .base) e b k (s .args .state) (c .before .before .before .before .before .before .before .before .before .before .before .before .before .before .before .before .before .sides .result) o (s .args .marks .now) (c .before .before .before .before .before .before .before .before .before .before .before .before .before .before .before .enum-told .given .1) (c .before .before .before .before .before .before .before .before .before .before .before .mark .ensures) w (c .before .before .after .given .1) in
@@ -1953,21 +1403,18 @@ pass-returns-2 t c =
 pass-enum-told-2 : (t : ℕ) → pass-lts.Need-enum-told-2 (pass-claims t) (pass-at t) pass.Post
 pass-enum-told-2 t c = search needs
 
--- src/walk.rt:180:5
 pass-went-requires : (t : ℕ) → pass-lts.Need-went-requires (pass-claims t) (pass-at t) pass.Post
 pass-went-requires t c κs = tt
 
--- src/walk.rt:158:1
 pass-same-length-2 : (t : ℕ) → pass-lts.Need-same-length-2 (pass-claims t) (pass-at t) pass.Post
 pass-same-length-2 t c = c .before .before .before .before .before .before .list .kept .1 .1 .1 .1 .1 .0 ∙ c .before .before .before .before .before .before .before .before .before .before .before .mark .kept .0
 
--- src/walk.rt:158:1
 pass-returns-3 : (t : ℕ) → pass-lts.Need-returns-3 (pass-claims t) (pass-at t) pass.Post
 pass-returns-3 t c =
     λ u e b h.
     let s = c .before .before .before .before .before .before .before .before .before .before .before .before .before .before .before .before .before .before .before .before .before .before in
     let g = setting (s .args .n) (s .args .unroll) in
-    let k = loop-cut (s .args .words .now) u e b h (c .before .before .before .before .before .before .before .before .before .before .before .before .before .before .before .before .before .before .before .event-end .result) (c .before .before .before .before .before .before .before .before .before .before .before .before .before .before .before .before .before .before .before .event-end .ensures) in
+    let k = pass-parts t (c .before .before .before .before .before .before .before .before .before .before .before .before .before .before .before .before .before .before .before) u e b h in
     let o = c .before .before .before .before .before .before .before .before .before .before .before .before .before .before .before .before .before .sides .ensures (s .args .unroll) e (k .event-part) in
     let w = c .before .before .before .before .before .before .list .ensures b (k .body-part) in
     let j = walks.pass-went g (s .args .base) e b k (s .args .state) (c .before .before .before .before .before .before .before .before .before .before .before .before .before .before .before .before .before .sides .result) o (s .args .marks .now) (c .before .before .before .before .before .before .before .before .before .before .before .before .before .before .before .enum-told .given .1) (c .before .before .before .before .before .before .before .before .before .before .before .mark .ensures) w (c .before .before .enum-told2 .given .1) in
@@ -1981,36 +1428,29 @@ search-Inv-loop words base n unroll marks₀ s₀ i₀ marks s i =
 abbrev search-μ-loop : search-lts.MeasureT-loop
 search-μ-loop words base n unroll marks₀ s₀ i₀ marks s i = 100 - i
 
--- src/walk.rt:193:9
 search-loop-holds : (t : ℕ) → search-lts.Need-loop-holds (search-claims t) (search-at t) search′.Post search-Inv-loop search-μ-loop
 search-loop-holds t c = (omega arith, (refl, λ u e b h. leads-self))
 
--- src/walk.rt:197:13
 search-pass-requires : (t : ℕ) → search-lts.Need-pass-requires (search-claims t) (search-at t) search′.Post search-Inv-loop search-μ-loop
 search-pass-requires t c κs =
     let s = c .before .before .before .before .before in
     (omega (arith, s .pre .0), (s .pre .1 .0, (s .pre .1 .1 .0, (s .pre .1 .1 .1 .0, omega (arith, s .pre .1 .1 .1 .1, c .before .before .loop .inv .1 .0)))))
 
--- src/walk.rt:199:33
 search-enum-known-verdict : (t : ℕ) → search-lts.Need-enum-known-verdict (search-claims t) (search-at t) search′.Post search-Inv-loop search-μ-loop
 search-enum-known-verdict t c = search needs
 
 search-enum-told : (t : ℕ) → search-lts.Need-enum-told (search-claims t) (search-at t) search′.Post search-Inv-loop search-μ-loop
 search-enum-told t c = search needs
 
--- src/walk.rt:203:12
 search-same-requires : (t : ℕ) → search-lts.Need-same-requires (search-claims t) (search-at t) search′.Post search-Inv-loop search-μ-loop
 search-same-requires t c κs = tt
 
--- src/walk.rt:207:9
 search-add-i : (t : ℕ) → search-lts.Need-add-i (search-claims t) (search-at t) search′.Post search-Inv-loop search-μ-loop
 search-add-i t c = let ne = c .before .before .before .before .before .before .before .before .before .if1 .left in omega (arith, c .before .before .before .before .before .before .before .before .before .before .loop .inv .0)
 
--- src/walk.rt:193:9
 search-loop-less : (t : ℕ) → search-lts.Need-loop-less (search-claims t) (search-at t) search′.Post search-Inv-loop search-μ-loop
 search-loop-less t c = let ne = c .before .before .before .before .before .before .before .before .before .if1 .left in omega (arith, c .before .before .before .before .before .before .before .before .before .before .loop .inv .0)
 
--- src/walk.rt:193:9
 search-loop-again : (t : ℕ) → search-lts.Need-loop-again (search-claims t) (search-at t) search′.Post search-Inv-loop search-μ-loop
 search-loop-again t c =
     let ne = c .before .before .before .before .before .before .before .before .before .if1 .left in (
@@ -2028,11 +1468,9 @@ search-loop-again t c =
       ),
     )
 
--- src/walk.rt:184:1
 search-same-length : (t : ℕ) → search-lts.Need-same-length (search-claims t) (search-at t) search′.Post search-Inv-loop search-μ-loop
 search-same-length t c = c .before .loop .inv .1 .0
 
--- src/walk.rt:184:1
 search-returns : (t : ℕ) → search-lts.Need-returns (search-claims t) (search-at t) search′.Post search-Inv-loop search-μ-loop
 search-returns t c =
     λ u e b h.
@@ -2042,11 +1480,9 @@ search-returns t c =
     let none : 100 - l .i ≡ 0 = omega (arith, c .if1 .taken) in
     l .inv .1 .1 u e b h .on _ _ (turns-laws.search-none g (s .args .base) e b (100 - l .i) none (l .i) (l .s) (l .marks))
 
--- src/walk.rt:184:1
 search-same-length-2 : (t : ℕ) → search-lts.Need-same-length-2 (search-claims t) (search-at t) search′.Post search-Inv-loop search-μ-loop
 search-same-length-2 t c = c .before .before .before .before .before .pass .kept .1 .1 .1 .1 .1 .0 ∙ c .before .before .before .before .before .before .before .before .loop .inv .1 .0
 
--- src/walk.rt:184:1
 search-returns-2 : (t : ℕ) → search-lts.Need-returns-2 (search-claims t) (search-at t) search′.Post search-Inv-loop search-μ-loop
 search-returns-2 t c =
     λ u e b h.
@@ -2058,11 +1494,9 @@ search-returns-2 t c =
     let more : 100 - l .i ≡ suc (100 - (l .i + 1)) = omega (arith, l .inv .0) in
     l .inv .1 .1 u e b h .on _ _ (turns-laws.search-refused g (s .args .base) e b (100 - l .i) (100 - (l .i + 1)) more (l .s) q (l .i) (c .before .verdict .given .1))
 
--- src/walk.rt:184:1
 search-same-length-3 : (t : ℕ) → search-lts.Need-same-length-3 (search-claims t) (search-at t) search′.Post search-Inv-loop search-μ-loop
 search-same-length-3 t c = c .before .before .before .before .before .before .before .pass .kept .1 .1 .1 .1 .1 .0 ∙ c .before .before .before .before .before .before .before .before .before .before .loop .inv .1 .0
 
--- src/walk.rt:184:1
 search-returns-3 : (t : ℕ) → search-lts.Need-returns-3 (search-claims t) (search-at t) search′.Post search-Inv-loop search-μ-loop
 search-returns-3 t c =
     λ u e b h.
@@ -2074,25 +1508,20 @@ search-returns-3 t c =
     let more : 100 - l .i ≡ suc (100 - (l .i + 1)) = omega (arith, l .inv .0) in
     l .inv .1 .1 u e b h .on _ _ (turns-laws.search-found g (s .args .base) e b (100 - l .i) (100 - (l .i + 1)) more (l .s) q (l .i) (c .before .before .before .enum-told .given .1) (sym (c .before .same .ensures) ∙ c .if2 .taken))
 
--- src/walk.rt:288:9
 settle-growing-requires : (t : ℕ) → settle-lts.Need-growing-requires (settle-claims t) (settle-at t) settle.Post
 settle-growing-requires t c κs =
     let s = c .before .before .before in
     (omega (arith, s .pre .0), (s .pre .1 .0, (s .pre .1 .1 .0, (s .pre .1 .1 .1 .0, s .pre .1 .1 .1 .1))))
 
--- src/walk.rt:290:29
 settle-enum-known-joining : (t : ℕ) → settle-lts.Need-enum-known-joining (settle-claims t) (settle-at t) settle.Post
 settle-enum-known-joining t c = search needs
 
--- src/walk.rt:291:9
 settle-not-settled-requires : (t : ℕ) → settle-lts.Need-not-settled-requires (settle-claims t) (settle-at t) settle.Post
 settle-not-settled-requires t c κs = tt
 
--- src/walk.rt:291:9
 settle-same-length : (t : ℕ) → settle-lts.Need-same-length (settle-claims t) (settle-at t) settle.Post
 settle-same-length t c = c .before .before .before .before .before .before .growing .kept .1 .1 .1 .1 .1 .1 .1 .0
 
--- src/walk.rt:291:9
 settle-returns : (t : ℕ) → settle-lts.Need-returns (settle-claims t) (settle-at t) settle.Post
 settle-returns t c =
     λ u e b h.
@@ -2104,15 +1533,12 @@ settle-returns t c =
 settle-enum-told : (t : ℕ) → settle-lts.Need-enum-told (settle-claims t) (settle-at t) settle.Post
 settle-enum-told t c = search needs
 
--- src/walk.rt:295:9
 settle-settled-requires : (t : ℕ) → settle-lts.Need-settled-requires (settle-claims t) (settle-at t) settle.Post
 settle-settled-requires t c κs = tt
 
--- src/walk.rt:295:9
 settle-same-length-2 : (t : ℕ) → settle-lts.Need-same-length-2 (settle-claims t) (settle-at t) settle.Post
 settle-same-length-2 t c = c .before .before .before .before .before .before .before .growing .kept .1 .1 .1 .1 .1 .1 .1 .0
 
--- src/walk.rt:295:9
 settle-returns-2 : (t : ℕ) → settle-lts.Need-returns-2 (settle-claims t) (settle-at t) settle.Post
 settle-returns-2 t c =
     λ u e b h.
@@ -2121,33 +1547,26 @@ settle-returns-2 t c =
     let j = c .before .before .before .before .before .before .before .growing .ensures u e b h in
     rw (c .settled .ensures) (turns-laws.joining-settled g (s .args .base) e b (s .args .state) j (c .before .before .before .enum-told .given .1) (c .before .if1 .taken))
 
--- src/walk.rt:297:51
 settle-add-growing : (t : ℕ) → settle-lts.Need-add-growing (settle-claims t) (settle-at t) settle.Post
 settle-add-growing t c = omega (arith, c .before .before .before .before .before .before .before .before .before .before .pre .1 .1 .0)
 
--- src/walk.rt:297:51
 settle-add-growing-2 : (t : ℕ) → settle-lts.Need-add-growing-2 (settle-claims t) (settle-at t) settle.Post
 settle-add-growing-2 t c = omega (arith, c .before .before .before .before .before .before .before .before .before .before .pre .1 .1 .0)
 
--- src/walk.rt:297:9
 settle-growing-requires-2 : (t : ℕ) → settle-lts.Need-growing-requires-2 (settle-claims t) (settle-at t) settle.Post
 settle-growing-requires-2 t c κs =
     let s = c .before .before .before .before .before .before .before .before .before .before .before in
     (omega (arith, s .pre .0), (s .pre .1 .0, (s .pre .1 .1 .0, (s .pre .1 .1 .1 .0, omega (arith, s .pre .1 .1 .1 .1, c .before .before .before .before .before .before .before .growing .kept .1 .1 .1 .1 .1 .1 .1 .0)))))
 
--- src/walk.rt:299:29
 settle-enum-known-widening : (t : ℕ) → settle-lts.Need-enum-known-widening (settle-claims t) (settle-at t) settle.Post
 settle-enum-known-widening t c = search needs
 
--- src/walk.rt:300:9
 settle-not-settled-requires-2 : (t : ℕ) → settle-lts.Need-not-settled-requires-2 (settle-claims t) (settle-at t) settle.Post
 settle-not-settled-requires-2 t c κs = tt
 
--- src/walk.rt:300:9
 settle-same-length-3 : (t : ℕ) → settle-lts.Need-same-length-3 (settle-claims t) (settle-at t) settle.Post
 settle-same-length-3 t c = c .before .before .before .before .before .before .growing2 .kept .1 .1 .1 .1 .1 .1 .1 .0 ∙ c .before .before .before .before .before .before .before .before .before .before .before .before .before .before .growing .kept .1 .1 .1 .1 .1 .1 .1 .0
 
--- src/walk.rt:300:9
 settle-returns-3 : (t : ℕ) → settle-lts.Need-returns-3 (settle-claims t) (settle-at t) settle.Post
 settle-returns-3 t c =
     λ u e b h.
@@ -2161,15 +1580,12 @@ settle-returns-3 t c =
 settle-enum-told-2 : (t : ℕ) → settle-lts.Need-enum-told-2 (settle-claims t) (settle-at t) settle.Post
 settle-enum-told-2 t c = search needs
 
--- src/walk.rt:303:5
 settle-settled-requires-2 : (t : ℕ) → settle-lts.Need-settled-requires-2 (settle-claims t) (settle-at t) settle.Post
 settle-settled-requires-2 t c κs = tt
 
--- src/walk.rt:281:1
 settle-same-length-4 : (t : ℕ) → settle-lts.Need-same-length-4 (settle-claims t) (settle-at t) settle.Post
 settle-same-length-4 t c = c .before .before .before .before .before .before .growing2 .kept .1 .1 .1 .1 .1 .1 .1 .0 ∙ c .before .before .before .before .before .before .before .before .before .before .before .before .before .before .growing .kept .1 .1 .1 .1 .1 .1 .1 .0
 
--- src/walk.rt:281:1
 settle-returns-4 : (t : ℕ) → settle-lts.Need-returns-4 (settle-claims t) (settle-at t) settle.Post
 settle-returns-4 t c =
     λ u e b h.
@@ -2180,46 +1596,47 @@ settle-returns-4 t c =
     let on = turns-laws.joining-on g (s .args .base) e b (s .args .state) j (c .before .before .before .before .before .before .before .before .before .before .enum-told .given .1) (c .before .before .before .before .before .before .before .before .if1 .left) in
     rw (c .settled2 .ensures) (on .on _ _ (turns-laws.widening-on g (s .args .base) e b (c .before .before .before .before .before .before .before .before .before .before .before .before .before .before .growing .result .state) (c .before .before .before .before .before .before .before .before .before .before .before .before .before .before .growing .result .passes) w (c .before .before .enum-told2 .given .1)))
 
--- src/walk.rt:101:16
+-- where the body of a normalize stands, within the words and the marks
+statement-room : (t : ℕ) (c : statement-lts.Then3 (statement-claims t) (statement-at t) statement′.Post) →
+    (getD (c .before .before .before .before .before .before .args .words .now) 1 0 + 2 < length (c .before .before .before .before .before .before .args .words .now)) ×
+    (Room (c .before .before .before .before .before .before .args .base) (c .before .before .before .before .before .before .args .words .now) (c .before .before .before .before .before .before .args .marks .now))
+statement-room t c =
+    let s = c .before .before .before .before .before .before in
+    let p = s .pre .1 .0 in
+    let k = normalize-cut (s .args .words .now) (p .tree) (p .is) (c .if3 .taken) (getD (s .args .words .now) 1 0 + 2) refl in
+    (omega (arith, k .whole), (s .pre .1 .1 .1 .1 .1, (omega (arith, s .good .0 .0, s .good .0 .1), omega (arith, s .pre .1 .1 .1 .1 .1, s .good))))
+
 statement-shared-slice-read-kind : (t : ℕ) → statement-lts.Need-shared-slice-read-kind (statement-claims t) (statement-at t) statement′.Post
 statement-shared-slice-read-kind t c =
     let s = c .before .before .before in
     let p = s .pre .1 .0 in
     omega (arith, ap length (p .is), statement-some (p .tree))
 
--- src/walk.rt:103:9
 statement-branch-requires : (t : ℕ) → statement-lts.Need-branch-requires (statement-claims t) (statement-at t) statement′.Post
 statement-branch-requires t c κs =
     let s = c .before .before .before .before .before in
     (omega (arith, s .pre .0), (s .pre .1 .0, (c .before .if1 .taken, s .pre .1 .1 .1)))
 
--- src/walk.rt:103:9
 statement-same-length : (t : ℕ) → statement-lts.Need-same-length (statement-claims t) (statement-at t) statement′.Post
 statement-same-length t c = c .before .before .branch .kept .1 .1 .1 .1 .1 .0
 
--- src/walk.rt:103:9
 statement-returns : (t : ℕ) → statement-lts.Need-returns (statement-claims t) (statement-at t) statement′.Post
 statement-returns t c = c .before .before .branch .ensures
 
--- src/walk.rt:106:13
 statement-looped-requires : (t : ℕ) → statement-lts.Need-looped-requires (statement-claims t) (statement-at t) statement′.Post
 statement-looped-requires t c κs =
     let s = c .before .before .before .before .before .before in
     (omega (arith, s .pre .0), (loop-is (s .args .words .now) (s .pre .1 .0) (c .before .if2 .taken), s .pre .1 .1 .1))
 
--- src/walk.rt:108:33
 statement-enum-known-verdict : (t : ℕ) → statement-lts.Need-enum-known-verdict (statement-claims t) (statement-at t) statement′.Post
 statement-enum-known-verdict t c = search needs
 
--- src/walk.rt:109:13
 statement-refused-requires : (t : ℕ) → statement-lts.Need-refused-requires (statement-claims t) (statement-at t) statement′.Post
 statement-refused-requires t c κs = tt
 
--- src/walk.rt:109:13
 statement-same-length-2 : (t : ℕ) → statement-lts.Need-same-length-2 (statement-claims t) (statement-at t) statement′.Post
 statement-same-length-2 t c = c .before .before .before .before .before .before .looped .kept .1 .1 .1 .1 .1 .0
 
--- src/walk.rt:109:13
 statement-returns-2 : (t : ℕ) → statement-lts.Need-returns-2 (statement-claims t) (statement-at t) statement′.Post
 statement-returns-2 t c =
     λ t h.
@@ -2232,15 +1649,12 @@ statement-returns-2 t c =
 statement-enum-told : (t : ℕ) → statement-lts.Need-enum-told (statement-claims t) (statement-at t) statement′.Post
 statement-enum-told t c = search needs
 
--- src/walk.rt:112:9
 statement-good-requires : (t : ℕ) → statement-lts.Need-good-requires (statement-claims t) (statement-at t) statement′.Post
 statement-good-requires t c κs = tt
 
--- src/walk.rt:112:9
 statement-same-length-3 : (t : ℕ) → statement-lts.Need-same-length-3 (statement-claims t) (statement-at t) statement′.Post
 statement-same-length-3 t c = c .before .before .before .before .before .before .looped .kept .1 .1 .1 .1 .1 .0
 
--- src/walk.rt:112:9
 statement-returns-3 : (t : ℕ) → statement-lts.Need-returns-3 (statement-claims t) (statement-at t) statement′.Post
 statement-returns-3 t c =
     λ t h.
@@ -2250,104 +1664,42 @@ statement-returns-3 t c =
     let q = c .before .before .before .before .before .before .looped .ensures (x .unroll) (x .event) (x .body) (h ∙ ap code.statement (x .same)) in
     rw (c .good2 .ensures, x .same) (turns-laws.while-on g (s .args .base) (x .event) (x .body) (x .unroll) (s .args .state) q (c .before .before .enum-told .given .1))
 
--- src/walk.rt:115:20
 statement-shared-slice-read-body : (t : ℕ) → statement-lts.Need-shared-slice-read-body (statement-claims t) (statement-at t) statement′.Post
 statement-shared-slice-read-body t c =
     let s = c .before .before .before .before .before .before .before in
     let p = s .pre .1 .0 in
     omega (arith, normalize-long (s .args .words .now) (p .tree) (p .is) (c .before .if3 .taken))
 
--- src/walk.rt:115:20
 statement-add-body : (t : ℕ) → statement-lts.Need-add-body (statement-claims t) (statement-at t) statement′.Post
-statement-add-body t c =
-    let s = c .before .before .before .before .before .before .before in
-    let p = s .pre .1 .0 in
-    let at : getD (s .args .words .now) 1 0 + 2 ≡ getD (s .args .words .now) 1 0 + 2 = refl in
-    let k = normalize-cut (s .args .words .now) (p .tree) (p .is) (c .before .if3 .taken) (getD (s .args .words .now) 1 0 + 2) at in
-    omega (arith, k .p-is, k .whole, s .good .0 .0, s .good .0 .1, s .pre .1 .1 .1 .1 .1)
+statement-add-body t c = omega (arith, statement-room t (c .before))
 
--- src/walk.rt:116:26
 statement-sub-normalize : (t : ℕ) → statement-lts.Need-sub-normalize (statement-claims t) (statement-at t) statement′.Post
-statement-sub-normalize t c =
-    let s = c .before .before .before .before .before .before .before in
-    let p = s .pre .1 .0 in
-    let at : getD (s .args .words .now) 1 0 + 2 ≡ getD (s .args .words .now) 1 0 + 2 = refl in
-    let k = normalize-cut (s .args .words .now) (p .tree) (p .is) (c .before .if3 .taken) (getD (s .args .words .now) 1 0 + 2) at in
-    omega (arith, k .p-is, k .whole, s .good .0 .0, s .good .0 .1, s .pre .1 .1 .1 .1 .1)
+statement-sub-normalize t c = omega (arith, statement-room t (c .before))
 
--- src/walk.rt:116:26
 statement-part-normalize-start : (t : ℕ) → statement-lts.Need-part-normalize-start (statement-claims t) (statement-at t) statement′.Post
-statement-part-normalize-start t c =
-    let s = c .before .before .before .before .before .before .before in
-    let p = s .pre .1 .0 in
-    let at : getD (s .args .words .now) 1 0 + 2 ≡ getD (s .args .words .now) 1 0 + 2 = refl in
-    let k = normalize-cut (s .args .words .now) (p .tree) (p .is) (c .before .if3 .taken) (getD (s .args .words .now) 1 0 + 2) at in
-    omega (arith, k .p-is, k .whole, s .good .0 .0, s .good .0 .1, s .pre .1 .1 .1 .1 .1)
+statement-part-normalize-start t c = omega (arith, statement-room t (c .before))
 
--- src/walk.rt:116:26
 statement-part-normalize-end : (t : ℕ) → statement-lts.Need-part-normalize-end (statement-claims t) (statement-at t) statement′.Post
-statement-part-normalize-end t c =
-    let s = c .before .before .before .before .before .before .before in
-    let p = s .pre .1 .0 in
-    let at : getD (s .args .words .now) 1 0 + 2 ≡ getD (s .args .words .now) 1 0 + 2 = refl in
-    let k = normalize-cut (s .args .words .now) (p .tree) (p .is) (c .before .if3 .taken) (getD (s .args .words .now) 1 0 + 2) at in
-    omega (arith, k .p-is, k .whole, s .good .0 .0, s .good .0 .1, s .pre .1 .1 .1 .1 .1)
+statement-part-normalize-end t c = omega (arith, statement-room t (c .before))
 
--- src/walk.rt:116:43
 statement-add-normalize : (t : ℕ) → statement-lts.Need-add-normalize (statement-claims t) (statement-at t) statement′.Post
-statement-add-normalize t c =
-    let s = c .before .before .before .before .before .before .before .before in
-    let p = s .pre .1 .0 in
-    let at : getD (s .args .words .now) 1 0 + 2 ≡ getD (s .args .words .now) 1 0 + 2 = refl in
-    let k = normalize-cut (s .args .words .now) (p .tree) (p .is) (c .before .before .if3 .taken) (getD (s .args .words .now) 1 0 + 2) at in
-    omega (arith, k .p-is, k .whole, s .good .0 .0, s .good .0 .1, s .pre .1 .1 .1 .1 .1)
+statement-add-normalize t c = omega (arith, statement-room t (c .before .before))
 
--- src/walk.rt:116:53
 statement-mul-normalize : (t : ℕ) → statement-lts.Need-mul-normalize (statement-claims t) (statement-at t) statement′.Post
-statement-mul-normalize t c =
-    let s = c .before .before .before .before .before .before .before .before in
-    let p = s .pre .1 .0 in
-    let at : getD (s .args .words .now) 1 0 + 2 ≡ getD (s .args .words .now) 1 0 + 2 = refl in
-    let k = normalize-cut (s .args .words .now) (p .tree) (p .is) (c .before .before .if3 .taken) (getD (s .args .words .now) 1 0 + 2) at in
-    omega (arith, k .p-is, k .whole, s .good .0 .0, s .good .0 .1, s .pre .1 .1 .1 .1 .1)
+statement-mul-normalize t c = omega (arith, statement-room t (c .before .before))
 
--- src/walk.rt:116:53
 statement-sub-normalize-2 : (t : ℕ) → statement-lts.Need-sub-normalize-2 (statement-claims t) (statement-at t) statement′.Post
-statement-sub-normalize-2 t c =
-    let s = c .before .before .before .before .before .before .before .before in
-    let p = s .pre .1 .0 in
-    let at : getD (s .args .words .now) 1 0 + 2 ≡ getD (s .args .words .now) 1 0 + 2 = refl in
-    let k = normalize-cut (s .args .words .now) (p .tree) (p .is) (c .before .before .if3 .taken) (getD (s .args .words .now) 1 0 + 2) at in
-    omega (arith, k .p-is, k .whole, s .good .0 .0, s .good .0 .1, s .pre .1 .1 .1 .1 .1)
+statement-sub-normalize-2 t c = omega (arith, statement-room t (c .before .before))
 
--- src/walk.rt:116:53
 statement-part-normalize-start-2 : (t : ℕ) → statement-lts.Need-part-normalize-start-2 (statement-claims t) (statement-at t) statement′.Post
-statement-part-normalize-start-2 t c =
-    let s = c .before .before .before .before .before .before .before .before in
-    let p = s .pre .1 .0 in
-    let at : getD (s .args .words .now) 1 0 + 2 ≡ getD (s .args .words .now) 1 0 + 2 = refl in
-    let k = normalize-cut (s .args .words .now) (p .tree) (p .is) (c .before .before .if3 .taken) (getD (s .args .words .now) 1 0 + 2) at in
-    omega (arith, k .p-is, k .whole, s .good .0 .0, s .good .0 .1, s .pre .1 .1 .1 .1 .1)
+statement-part-normalize-start-2 t c = omega (arith, statement-room t (c .before .before))
 
--- src/walk.rt:116:53
 statement-part-normalize-end-2 : (t : ℕ) → statement-lts.Need-part-normalize-end-2 (statement-claims t) (statement-at t) statement′.Post
-statement-part-normalize-end-2 t c =
-    let s = c .before .before .before .before .before .before .before .before in
-    let p = s .pre .1 .0 in
-    let at : getD (s .args .words .now) 1 0 + 2 ≡ getD (s .args .words .now) 1 0 + 2 = refl in
-    let k = normalize-cut (s .args .words .now) (p .tree) (p .is) (c .before .before .if3 .taken) (getD (s .args .words .now) 1 0 + 2) at in
-    omega (arith, k .p-is, k .whole, s .good .0 .0, s .good .0 .1, s .pre .1 .1 .1 .1 .1)
+statement-part-normalize-end-2 t c = omega (arith, statement-room t (c .before .before))
 
--- src/walk.rt:116:69
 statement-add-normalize-2 : (t : ℕ) → statement-lts.Need-add-normalize-2 (statement-claims t) (statement-at t) statement′.Post
-statement-add-normalize-2 t c =
-    let s = c .before .before .before .before .before .before .before .before .before in
-    let p = s .pre .1 .0 in
-    let at : getD (s .args .words .now) 1 0 + 2 ≡ getD (s .args .words .now) 1 0 + 2 = refl in
-    let k = normalize-cut (s .args .words .now) (p .tree) (p .is) (c .before .before .before .if3 .taken) (getD (s .args .words .now) 1 0 + 2) at in
-    omega (arith, k .p-is, k .whole, s .good .0 .0, s .good .0 .1, s .pre .1 .1 .1 .1 .1)
+statement-add-normalize-2 t c = omega (arith, statement-room t (c .before .before .before))
 
--- src/walk.rt:116:9
 statement-normalize-requires : (t : ℕ) → statement-lts.Need-normalize-requires (statement-claims t) (statement-at t) statement′.Post
 statement-normalize-requires t c κs =
     let s = c .before .before .before .before .before .before .before .before .before .before in
@@ -2371,11 +1723,9 @@ statement-normalize-requires t c κs =
       ),
     )
 
--- src/walk.rt:116:9
 statement-same-length-4 : (t : ℕ) → statement-lts.Need-same-length-4 (statement-claims t) (statement-at t) statement′.Post
 statement-same-length-4 t c = c .before .before .normalize .kept .1 .1 .1 .1 .1 .1 .1 .0
 
--- src/walk.rt:116:9
 statement-returns-4 : (t : ℕ) → statement-lts.Need-returns-4 (statement-claims t) (statement-at t) statement′.Post
 statement-returns-4 t c =
     λ t h.
@@ -2385,15 +1735,12 @@ statement-returns-4 t c =
     let q = c .before .before .normalize .ensures (k .body) (k .body-part) in
     walks.normalize-whole g (s .args .base) k (s .args .state) q
 
--- src/walk.rt:118:9
 statement-empty-requires : (t : ℕ) → statement-lts.Need-empty-requires (statement-claims t) (statement-at t) statement′.Post
 statement-empty-requires t c κs = tt
 
--- src/walk.rt:119:5
 statement-good-requires-2 : (t : ℕ) → statement-lts.Need-good-requires-2 (statement-claims t) (statement-at t) statement′.Post
 statement-good-requires-2 t c κs = tt
 
--- src/walk.rt:93:1
 statement-returns-5 : (t : ℕ) → statement-lts.Need-returns-5 (statement-claims t) (statement-at t) statement′.Post
 statement-returns-5 t c =
     λ t h.
@@ -2410,29 +1757,23 @@ unrolled-Inv-loop words base n unroll turns marks₀ s₀ exits₀ left₀ marks
 abbrev unrolled-μ-loop : unrolled-lts.MeasureT-loop
 unrolled-μ-loop words base n unroll turns marks₀ s₀ exits₀ left₀ marks s exits left = left
 
--- src/walk.rt:229:9
 unrolled-empty-requires : (t : ℕ) → unrolled-lts.Need-empty-requires (unrolled-claims t) (unrolled-at t) unrolled.Post unrolled-Inv-loop unrolled-μ-loop
 unrolled-empty-requires t c κs = tt
 
--- src/walk.rt:231:5
 unrolled-loop-holds : (t : ℕ) → unrolled-lts.Need-loop-holds (unrolled-claims t) (unrolled-at t) unrolled.Post unrolled-Inv-loop unrolled-μ-loop
 unrolled-loop-holds t c = (omega arith, (refl, λ u e b h. leads-self))
 
--- src/walk.rt:232:13
 unrolled-pass-requires : (t : ℕ) → unrolled-lts.Need-pass-requires (unrolled-claims t) (unrolled-at t) unrolled.Post unrolled-Inv-loop unrolled-μ-loop
 unrolled-pass-requires t c κs =
     let s = c .before .before .before .before .before .before in
     (omega (arith, s .pre .0), (s .pre .1 .0, (s .pre .1 .1 .0, (s .pre .1 .1 .1 .0, omega (arith, s .pre .1 .1 .1 .1, c .before .before .loop .inv .1 .0)))))
 
--- src/walk.rt:235:13
 unrolled-enum-told : (t : ℕ) → unrolled-lts.Need-enum-told (unrolled-claims t) (unrolled-at t) unrolled.Post unrolled-Inv-loop unrolled-μ-loop
 unrolled-enum-told t c = search needs
 
--- src/walk.rt:235:13
 unrolled-same-length : (t : ℕ) → unrolled-lts.Need-same-length (unrolled-claims t) (unrolled-at t) unrolled.Post unrolled-Inv-loop unrolled-μ-loop
 unrolled-same-length t c = c .before .before .before .before .pass .kept .1 .1 .1 .1 .1 .0 ∙ c .before .before .before .before .before .before .before .loop .inv .1 .0
 
--- src/walk.rt:235:13
 unrolled-returns : (t : ℕ) → unrolled-lts.Need-returns (unrolled-claims t) (unrolled-at t) unrolled.Post unrolled-Inv-loop unrolled-μ-loop
 unrolled-returns t c =
     λ u e b h.
@@ -2446,19 +1787,15 @@ unrolled-returns t c =
 unrolled-enum-told-2 : (t : ℕ) → unrolled-lts.Need-enum-told-2 (unrolled-claims t) (unrolled-at t) unrolled.Post unrolled-Inv-loop unrolled-μ-loop
 unrolled-enum-told-2 t c = search needs
 
--- src/walk.rt:238:9
 unrolled-join-requires : (t : ℕ) → unrolled-lts.Need-join-requires (unrolled-claims t) (unrolled-at t) unrolled.Post unrolled-Inv-loop unrolled-μ-loop
 unrolled-join-requires t c κs = tt
 
--- src/walk.rt:240:9
 unrolled-sub-left : (t : ℕ) → unrolled-lts.Need-sub-left (unrolled-claims t) (unrolled-at t) unrolled.Post unrolled-Inv-loop unrolled-μ-loop
 unrolled-sub-left t c = omega (arith, c .before .before .before .before .before .before .before .before .before .loop-test .taken)
 
--- src/walk.rt:231:5
 unrolled-loop-less : (t : ℕ) → unrolled-lts.Need-loop-less (unrolled-claims t) (unrolled-at t) unrolled.Post unrolled-Inv-loop unrolled-μ-loop
 unrolled-loop-less t c = omega (arith, c .before .before .before .before .before .before .before .before .before .loop-test .taken)
 
--- src/walk.rt:231:5
 unrolled-loop-again : (t : ℕ) → unrolled-lts.Need-loop-again (unrolled-claims t) (unrolled-at t) unrolled.Post unrolled-Inv-loop unrolled-μ-loop
 unrolled-loop-again t c = (
   omega (arith, c .before .before .before .before .before .before .before .before .before .before .loop .inv .0),
@@ -2474,15 +1811,12 @@ unrolled-loop-again t c = (
   ),
 )
 
--- src/walk.rt:242:5
 unrolled-went-requires : (t : ℕ) → unrolled-lts.Need-went-requires (unrolled-claims t) (unrolled-at t) unrolled.Post unrolled-Inv-loop unrolled-μ-loop
 unrolled-went-requires t c κs = tt
 
--- src/walk.rt:213:1
 unrolled-same-length-2 : (t : ℕ) → unrolled-lts.Need-same-length-2 (unrolled-claims t) (unrolled-at t) unrolled.Post unrolled-Inv-loop unrolled-μ-loop
 unrolled-same-length-2 t c = c .before .before .loop .inv .1 .0
 
--- src/walk.rt:213:1
 unrolled-returns-2 : (t : ℕ) → unrolled-lts.Need-returns-2 (unrolled-claims t) (unrolled-at t) unrolled.Post unrolled-Inv-loop unrolled-μ-loop
 unrolled-returns-2 t c =
     λ u e b h.

@@ -1,55 +1,41 @@
-use Rattle.analysis.proofs.Walks.{left-good, left-refused}
-use Rattle.analysis.proofs.Cuts.{LoopCut, loop-cut, loop-event, loop-event-is, loop-inside}
-use Rattle.analysis.specs.Noted.{setting}
-use Rattle.words.specs.Parts.{EventIs}
-use lib.ListN.{length}
-use native.Mathlib.Omega.{arith}
+-- `walk::leave` meets its contract: the event's words are the loop's from its third on, and its false side is what leaves.
 use mathlib.Core.List.{[]}
-use mathlib.Core.Path.{_≡_, sym, ap, _∙_}
+use mathlib.Core.Path.{ap, _∙_}
+use native.Mathlib.Omega.{arith}
+use lib.ListN.{length}
 use borrow.Author.Needs.{needs}
+use Rattle.analysis.specs.Noted.{setting}
+use Rattle.analysis.proofs.Walks.{left-good, left-refused}
+use Rattle.analysis.proofs.Cuts.{loop-cut, loop-event, loop-event-is, loop-inside}
 use Rattle.analysis.proofs.walk.leave.Statement.{statement}
 use Rattle.analysis.proofs.walk.leave.Tie as tie
-use Rattle.analysis.proofs.walk.leave.Reads as reads
-use Rattle.analysis.proofs.walk.leave.Lts as lts
-use Rattle.states.proofs.good.Reads as good-reads
-use Rattle.states.proofs.refused.Reads as refused-reads
-use Rattle.words.proofs.ends.event_end.Reads as event-end-reads
 
--- src/walk.rt:313:9
 event-end-requires : tie.Need-event-end-requires
 event-end-requires c κs = loop-event (c .before .args .words .now) (c .before .pre .0 .unroll) (c .before .pre .0 .event) (c .before .pre .0 .body) (c .before .pre .0 .is)
 
--- src/walk.rt:314:26
 sub-sides : tie.Need-sub-sides
 sub-sides c = let k = loop-inside (c .before .before .pre .0) (c .event-end .result) (c .event-end .ensures) in omega (arith, k .some, c .before .before .good .0 .0)
 
--- src/walk.rt:314:26
 part-sides-start : tie.Need-part-sides-start
 part-sides-start c = let k = loop-inside (c .before .before .pre .0) (c .event-end .result) (c .event-end .ensures) in omega (arith, k .some)
 
--- src/walk.rt:314:26
 part-sides-end : tie.Need-part-sides-end
 part-sides-end c = let k = loop-inside (c .before .before .pre .0) (c .event-end .result) (c .event-end .ensures) in omega (arith, k .whole)
 
--- src/walk.rt:314:43
 add-sides : tie.Need-add-sides
 add-sides c = let k = loop-inside (c .before .before .before .pre .0) (c .before .event-end .result) (c .before .event-end .ensures) in omega (arith, k .whole, k .some, c .before .before .before .pre .1 .1)
 
--- src/walk.rt:314:9
 sides-requires : tie.Need-sides-requires
 sides-requires c κs =
     let k = loop-inside (c .before .before .before .pre .0) (c .before .event-end .result) (c .before .event-end .ensures) in
     (loop-event-is (c .before .before .before .pre .0) (c .before .event-end .result) (c .before .event-end .ensures), (c .before .before .before .pre .1 .0, omega (arith, k .whole, k .some, k .p-is, ap length (k .event-part), c .before .before .before .pre .1 .1)))
 
--- src/walk.rt:316:29
 enum-known-verdict : tie.Need-enum-known-verdict
 enum-known-verdict c = search needs
 
--- src/walk.rt:317:9
 refused-requires : tie.Need-refused-requires
 refused-requires c κs = search needs
 
--- src/walk.rt:317:9
 returns : tie.Need-returns
 returns c =
     λ d u e b is. let k = loop-cut (c .before .before .before .before .before .before .before .before .args .words .now) u e b is (c .before .before .before .before .before .before .event-end .result) (c .before .before .before .before .before .before .event-end .ensures) in
@@ -58,11 +44,9 @@ returns c =
 enum-told : tie.Need-enum-told
 enum-told c = search needs
 
--- src/walk.rt:320:5
 good-requires : tie.Need-good-requires
 good-requires c κs = search needs
 
--- src/walk.rt:307:1
 returns-2 : tie.Need-returns-2
 returns-2 c =
     λ d u e b is. let k = loop-cut (c .before .before .before .before .before .before .before .before .args .words .now) u e b is (c .before .before .before .before .before .before .event-end .result) (c .before .before .before .before .before .before .event-end .ensures) in
