@@ -13,12 +13,9 @@ use Rattle.text.specs.Answers.{Outcome, leaves, of-printed, refused, done}
 use Rattle.text.specs.Line.{printed}
 use Rattle.text.specs.declared.Printed.{Printed}
 use Rattle.text.specs.declared.Printed.the-variants.{Wrote}
-use Rattle.replay.specs.Records.{Line, Record, next, part}
+use Rattle.replay.specs.Records.{Unbroken, Line, Record, next, part}
 
--- No line feed stands from `from` to below `to`.
-abbrev pub Unbroken : List ℕ → ℕ → ℕ → Type 0
-Unbroken list from to = (i : ℕ) → from ≤ i → i < to → getD list i 0 ≡ 0x0A → ⊥
-
+-- One byte more that is no line feed.
 pub one-further : (list : List ℕ) (from at : ℕ) → Unbroken list from at → (getD list at 0 ≡ 0x0A → ⊥) → Unbroken list from (at + 1)
 one-further list from at before here i low high is = by-test (ltb i at) refl
   where

@@ -7,11 +7,15 @@ use lib.Dec.{ltb}
 use lib.ListN.{length, take, drop, getD}
 use Rattle.woolquern.specs.Job.{line-of, answer}
 
+-- No line feed stands from `from` to below `to`.
+abbrev pub Unbroken : List ℕ → ℕ → ℕ → Type 0
+Unbroken list from to = (i : ℕ) → from ≤ i → i < to → getD list i 0 ≡ 0x0A → ⊥
+
 -- The line that begins at `from` ends at `end`: at its line feed, or with the list.
 pub record Line (list : List ℕ) (from end : ℕ) : Type 0 where
   pub begins : from ≤ end
   pub within : end ≤ length list
-  pub inside : (i : ℕ) → from ≤ i → i < end → getD list i 0 ≡ 0x0A → ⊥
+  pub inside : Unbroken list from end
   pub ends : end < length list → getD list end 0 ≡ 0x0A
 
 -- Where the next line begins.

@@ -1,3 +1,4 @@
+-- What `run` wrote into 2,048 bytes is the line of the answer, and `same` compares it.
 use Rattle.replay.proofs.Lines.{wrote}
 use Rattle.woolquern.specs.Job.{line-of, answer}
 use Rattle.text.proofs.Puts.{printed-fits}

@@ -1,14 +1,14 @@
+-- No line feed stands before the place that the loop has come to.
+use Rattle.replay.specs.Records.{Unbroken}
 use Rattle.replay.proofs.Lines.{one-further}
--- `replay::line_end` meets its contract. Assumes nothing.
-use Prim.Native.Nat.{ℕ, _≤_, _<_, _-_}
-use mathlib.Core.Path.{_≡_}
+use Prim.Native.Nat.{_≤_, _-_}
 use native.Mathlib.Omega.{arith}
-use lib.ListN.{length, getD}
+use lib.ListN.{length}
 use Rattle.replay.proofs.line_end.Statement.{statement}
 use Rattle.replay.proofs.line_end.Tie as tie
 
 abbrev Inv-loop : tie.InvT-loop
-Inv-loop list from at₀ at = (from ≤ at) × (at ≤ length list) × ((i : ℕ) → from ≤ i → i < at → getD list i 0 ≡ 0x0A → ⊥)
+Inv-loop list from at₀ at = (from ≤ at) × (at ≤ length list) × Unbroken list from at
 
 abbrev μ-loop : tie.MeasureT-loop
 μ-loop list from at₀ at = length list - at

@@ -1,3 +1,4 @@
+-- Each way of the test is that of the definition.
 use borrow.Author.Tests.{lt-ltb, le-ltb}
 use mathlib.Core.Path.{_≡_, refl}
 use borrow.Author.Needs.{needs}

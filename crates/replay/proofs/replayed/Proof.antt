@@ -1,18 +1,13 @@
+-- The tally is that of the records passed, which are at most one for each byte, so that it fits.
 use mathlib.Core.Bool.{true≢false}
-use Rattle.replay.proofs.Lines.{recorded}
-use Rattle.replay.proofs.Lines.{follows}
-use Rattle.replay.specs.Records.{Replayed, Record, begin, agrees, differs}
+use Rattle.replay.proofs.Lines.{recorded, follows}
+use Rattle.replay.specs.Records.{Replayed, begin, agrees, differs}
 use lib.ListN.{length}
 use native.Mathlib.Omega.{arith}
 use mathlib.Core.Path.{_≡_, sym, _∙_}
 use Prim.Native.Nat.{_+_, _≤_, _-_}
 use Rattle.replay.proofs.replayed.Statement.{statement}
 use Rattle.replay.proofs.replayed.Tie as tie
-use Rattle.replay.proofs.replayed.Reads as reads
-use Rattle.replay.proofs.replayed.Lts as lts
-use Rattle.replay.proofs.agrees.Reads as agrees-reads
-use Rattle.replay.proofs.line_end.Reads as line-end-reads
-use Rattle.replay.proofs.next.Reads as next-reads
 
 abbrev Inv-loop : tie.InvT-loop
 Inv-loop list tally₀ at₀ tally at = (at ≤ length list) × (tally .agree + tally .differ ≤ at) × Replayed list at (tally .agree) (tally .differ)
