@@ -15,7 +15,7 @@ A=$D/apt
 mkdir -p "$A/state/lists/partial" "$A/cache/archives/partial" "$D/debs" "$D/root" "$D/link" "$D/bin"
 : >"$A/status"
 me=$(id -un)
-opts="-o Dir::State=$A/state -o Dir::State::status=$A/status -o Dir::Cache=$A/cache -o APT::Architectures::=amd64 -o APT::Architectures::=$H -o Debug::NoLocking=1 -o APT::Sandbox::User=$me"
+opts="-o Dir::State=$A/state -o Dir::State::status=$A/status -o Dir::Cache=$A/cache -o APT::Architectures::=amd64 -o APT::Architectures::=$H -o Debug::NoLocking=1 -o APT::Sandbox::User=$me -o Acquire::http::Timeout=20 -o Acquire::https::Timeout=20 -o Acquire::Retries=0"
 apt-get $opts -q update
 std=$(apt-cache $opts depends libstd-rust-dev:amd64 | sed -n 's/^ *Depends: \(libstd-rust-[0-9.]*\).*/\1/p' | head -1)
 [ -n "$std" ] || { echo "no libstd-rust of amd64 in the sources" >&2; exit 1; }

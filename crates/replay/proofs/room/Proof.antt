@@ -1,0 +1,12 @@
+-- The length by the law of `replicate`: computing it would go over every byte.
+use Prim.Native.Nat.{ℕ}
+use mathlib.Core.Path.{sym}
+use lib.ListN.{length-replicate}
+use Rattle.replay.proofs.room.Statement.{statement}
+use Rattle.replay.proofs.room.Tie as tie
+
+returns : tie.Need-returns
+returns c = sym (length-replicate {0} {A = ℕ} 2097152 0)
+
+pub room-spec : {M : Type 1} → statement M
+room-spec = tie.close (tie.spec returns)
