@@ -165,14 +165,13 @@ fn in_closed(k: Class) -> Move
 fn step(m: Mode, b: u8) -> Move
     ensures { λ r. ⌜ r ≡ machine.step m (machine.class-of b) b ⌝ }
 {
-    let k = class_of(b);
     match m {
-        Mode::Start => in_start(k),
-        Mode::Opened => in_opened(k, b),
-        Mode::Digits(v) => in_digits(v, k, b),
-        Mode::Ended => in_ended(k),
-        Mode::Parted => in_parted(k, b),
-        Mode::Closed => in_closed(k),
+        Mode::Start => in_start(class_of(b)),
+        Mode::Opened => in_opened(class_of(b), b),
+        Mode::Digits(v) => in_digits(v, class_of(b), b),
+        Mode::Ended => in_ended(class_of(b)),
+        Mode::Parted => in_parted(class_of(b), b),
+        Mode::Closed => in_closed(class_of(b)),
     }
 }
 
