@@ -198,8 +198,8 @@ fn store(words: &mut [u64], at: usize, word: u64)
     }
 }
 
-// A pass over the text: whether it is one, and how many numbers it holds. They go into the words as far as those reach.
-fn pass(text: &[u8], words: &mut [u64]) -> Found
+// A pass over the text: whether it is one, and how many numbers it holds. They go into the words as far as those reach: for words that nobody else sees.
+pub fn pass(text: &[u8], words: &mut [u64]) -> Found
     ensures { λ r. ⌜ r ≡ machine.found (machine.contents (now (text .entry)) Mode.Start) ⌝ }
     ensures { λ _. ⌜ (machine.FitsIn (machine.contents (now (text .entry)) Mode.Start) (length (now (words .entry))) → now (words .exit) ≡ machine.put (machine.contents (now (text .entry)) Mode.Start) (now (words .entry))) ⌝ }
 {

@@ -23,7 +23,9 @@ use Rattle.text.specs.Answers as texts
 use Rattle.text.specs.Answers.{leaves, of-answer, of-reading, of-printed}
 use Rattle.text.specs.declared.Reading.{Reading as Text-reading}
 use Rattle.text.specs.declared.Reading.the-variants as reading
-use Rattle.text.specs.Machine.{Contents, holds, breaks, contents, outcome, settle}
+use Rattle.text.specs.declared.Found.{Found}
+use Rattle.text.specs.declared.Found.the-variants.{Holds, Breaks}
+use Rattle.text.specs.Machine.{Contents, holds, breaks, contents, found, put, FitsIn, outcome, settle}
 use Rattle.text.specs.declared.Mode.the-variants.{Start}
 use Rattle.text.specs.Line.{ascii, body, line, printed}
 use Rattle.text.specs.declared.Printed.{Printed}
@@ -70,6 +72,47 @@ module _ (text words : List ℕ) (r : Text-reading) (after : List ℕ) (e : leav
 
   pub read-room : {count : ℕ} → r ≡ reading.Read count → count ≤ length after
   read-room is = left is .1
+
+-- what `pass` answers of a text that is not too long
+module _ (text : List ℕ) (short : length text ≤ 65536) where
+  of-contents : words-in (contents text Start) ≡ words-of text
+  of-contents = sym (rw (le-ltb 65536 (length text) short) refl)
+
+  pub text-breaks : {place : ℕ} (r : Found) → r ≡ found (contents text Start) → r ≡ Breaks place → Refuses 1 place ≡ words-of text
+  text-breaks {place} r e is = go (contents text Start) (sym is ∙ e) ∙ of-contents
+    where
+      go : (x : Contents) → Breaks place ≡ found x → Refuses 1 place ≡ words-in x
+      go (holds ws) q = let z : _≡_ {A = ℕ} 0 1 = cc in absurd (omega arith)
+      go (breaks k) q = cc
+
+  pub text-many : {count : ℕ} (r : Found) → r ≡ found (contents text Start) → r ≡ Holds count → 8192 < count → Refuses 2 0 ≡ words-of text
+  text-many {count} r e is h = go (contents text Start) (sym is ∙ e) ∙ of-contents
+    where
+      go : (x : Contents) → Holds count ≡ found x → Refuses 2 0 ≡ words-in x
+      go (holds ws) q = let same : count ≡ length ws = cc in rw (lt-ltb 8192 (length ws) (omega arith)) refl
+      go (breaks k) q = let z : _≡_ {A = ℕ} 0 1 = cc in absurd (omega arith)
+
+  -- the numbers, where the words had room for them
+  pub record Passed (count : ℕ) (after : List ℕ) : Type 0 where
+    pub words : Gives (take count after) ≡ words-of text
+    pub room : count ≤ length after
+
+  pub text-words : {count : ℕ} (r : Found) (before after : List ℕ) → r ≡ found (contents text Start) → r ≡ Holds count → count ≤ 8192 → count ≤ length before →
+      (FitsIn (contents text Start) (length before) → after ≡ put (contents text Start) before) → Passed count after
+  text-words {count} r before after e is few fits h = go (contents text Start) (sym is ∙ e) of-contents h
+    where
+      go : (x : Contents) → Holds count ≡ found x → words-in x ≡ words-of text → (FitsIn x (length before) → after ≡ put x before) → Passed count after
+      go (holds ws) q w f =
+          let same : count ≡ length ws = cc in
+          let is-put : after ≡ ws ++ drop (length ws) before = f (omega arith) in
+          record {
+            words = ap Gives (ap (λ (k : ℕ). take k after) same ∙ ap (take (length ws)) is-put ∙ take-append-seam ws (drop (length ws) before)) ∙ sym (rw (le-ltb 8192 (length ws) (omega arith)) refl) ∙ w;
+            room = let l : length after ≡ length (ws ++ drop (length ws) before) = ap length is-put in omega (arith, same, l, length-append ws (drop (length ws) before));
+          }
+      go (breaks k) q w f = let z : _≡_ {A = ℕ} 0 1 = cc in absurd (omega arith)
+
+pub text-over : (text : List ℕ) → 65536 < length text → Refuses 2 0 ≡ words-of text
+text-over text h = sym (rw (lt-ltb 65536 (length text) h) refl)
 
 -- ---- their answer
 

@@ -12,11 +12,11 @@ use ranges::End;
 use ranges::Range;
 use states::Cell;
 use states::Start;
+use text::Found;
 use text::Printed;
-use text::Reading;
 use words::Checked;
 ghost use mathlib.Core.Path.{_≡_};
-ghost use Prim.Native.Nat.{_<_};
+ghost use Prim.Native.Nat.{_≤_, _<_};
 ghost use lib.ListN.{length};
 ghost use Rattle.paper.specs.Answers as answers;
 ghost use Rattle.states.specs.States as states;
@@ -60,30 +60,52 @@ fn run_words(words: &[u64], out: &mut [u8]) -> Printed
     }
 }
 
-// The line for a text of any length.
+// The line for a text that may hold 8,192 words.
 fn run_long(text: &[u8], out: &mut [u8]) -> Printed
+    requires { ⌜ length (now text) ≤ 65536 ⌝ }
     ensures { λ r. ⌜ leaves (of-printed r) (now (out .exit)) ≡ job.run (now (text .entry)) (now (out .entry)) ⌝ }
     ensures { λ r. ⌜ (r ≡ Short → length (now (out .entry)) < 2048) ⌝ }
 {
     let mut words = [0; 8192];
-    match text::read(text, &mut words) {
-        Reading::Refused(number, place) => refuse(number, place, out),
-        Reading::Read(count) => run_words(&words[..count], out),
+    match text::pass(text, &mut words) {
+        Found::Breaks(place) => refuse(1, place, out),
+        Found::Holds(count) => {
+            if 8192 < count {
+                return refuse(2, 0, out);
+            }
+            run_words(&words[..count], out)
+        }
+    }
+}
+
+// The line for a short text, which need not pay for clearing 8,192 words.
+fn run_short(text: &[u8], out: &mut [u8]) -> Printed
+    requires { ⌜ length (now text) ≤ 65536 ⌝ }
+    ensures { λ r. ⌜ leaves (of-printed r) (now (out .exit)) ≡ job.run (now (text .entry)) (now (out .entry)) ⌝ }
+    ensures { λ r. ⌜ (r ≡ Short → length (now (out .entry)) < 2048) ⌝ }
+{
+    let mut words = [0; 256];
+    match text::pass(text, &mut words) {
+        Found::Breaks(place) => refuse(1, place, out),
+        Found::Holds(count) => {
+            if 256 < count {
+                return run_long(text, out);
+            }
+            run_words(&words[..count], out)
+        }
     }
 }
 
 // Prints the line for a text: how many bytes, or that the buffer is shorter, and then it is left as it was. 2,048 bytes are always enough.
-// A short text need not pay for clearing 8,192 words.
 pub fn run(text: &[u8], out: &mut [u8]) -> Printed
     ensures { λ r. ⌜ leaves (of-printed r) (now (out .exit)) ≡ job.run (now (text .entry)) (now (out .entry)) ⌝ }
     ensures { λ r. ⌜ (r ≡ Short → length (now (out .entry)) < 2048) ⌝ }
 {
+    if 65536 < text.len() {
+        return refuse(2, 0, out);
+    }
     if 512 < text.len() {
         return run_long(text, out);
     }
-    let mut few = [0; 256];
-    match text::read(text, &mut few) {
-        Reading::Refused(_, _) => run_long(text, out),
-        Reading::Read(count) => run_words(&few[..count], out),
-    }
+    run_short(text, out)
 }

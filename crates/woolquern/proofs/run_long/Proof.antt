@@ -1,12 +1,12 @@
--- `run_long` meets its contract: what was read is answered, and a reading that failed is refused.
-use lib.ListN.{replicate}
-use lib.Seq.{length-take-le}
-use Rattle.woolquern.proofs.Jobs.{read-refused, read-words, read-room, full}
+-- `run_long` meets its contract: what was found in the text is answered or refused.
+use Rattle.woolquern.proofs.Jobs.{text-breaks, text-many, text-words}
 use Rattle.woolquern.specs.Job.{line-of}
 use Rattle.text.specs.Line.{printed}
 use Rattle.paper.specs.Answers.{ran}
 use Rattle.states.specs.Answers.{Answer, and-then}
-use denote.Ref.{now}
+use lib.Seq.{length-take-le}
+use lib.ListN.{replicate, length-replicate}
+use native.Mathlib.Omega.{arith}
 use Prim.Native.Nat.{ℕ}
 use mathlib.Core.List.{List}
 use mathlib.Core.Path.{ap, sym, _∙_}
@@ -14,29 +14,24 @@ use borrow.Author.Needs.{needs}
 use Rattle.woolquern.proofs.run_long.Statement.{statement}
 use Rattle.woolquern.proofs.run_long.Tie as tie
 
+returns : tie.Need-returns
+returns c = (c .before .before .refuse2 .ensures .0 ∙ ap (λ (x : Answer (List ℕ)). printed (line-of (and-then x ran)) (c .before .before .before .before .before .before .before .before .before .before .before .before .before .args .out .now)) (text-many (c .before .before .before .before .before .before .before .before .before .before .before .before .before .args .text .now) (c .before .before .before .before .before .before .before .before .before .before .before .before .before .pre) (c .before .before .before .before .before .before .before .before .before .pass .result) (c .before .before .before .before .before .before .before .before .before .pass .ensures .0) (c .before .before .before .before .before .before .count .given .1) (c .before .before .before .before .if1 .taken)), c .before .before .refuse2 .ensures .1)
+
 array-share-prefix-words : tie.Need-array-share-prefix-words
-array-share-prefix-words c = read-room (c .before .before .before .before .before .before .before .before .args .text .now) (replicate 8192 0) (c .before .before .before .before .read .result) (c .before .before .before .before .read .last .1 .0) (c .before .before .before .before .read .ensures .1) (c .before .count .given .1)
+array-share-prefix-words c = text-words (c .before .before .before .before .before .before .before .before .before .args .text .now) (c .before .before .before .before .before .before .before .before .before .pre) (c .before .before .before .before .before .pass .result) (replicate 8192 0) (c .before .before .before .before .before .pass .last .1 .0) (c .before .before .before .before .before .pass .ensures .0) (c .before .before .count .given .1) (omega (arith, c .if1 .left)) (omega (arith, length-replicate {A = ℕ} 8192 0, c .if1 .left)) (c .before .before .before .before .before .pass .ensures .1) .room
 
 slice-aggregate-run-words : tie.Need-slice-aggregate-run-words
-slice-aggregate-run-words c = sym (length-take-le _ _ (read-room (c .before .before .before .before .before .before .before .before .before .args .text .now) (replicate 8192 0) (c .before .before .before .before .before .read .result) (c .before .before .before .before .before .read .last .1 .0) (c .before .before .before .before .before .read .ensures .1) (c .before .before .count .given .1)))
-
-returns : tie.Need-returns
-returns c = (
-  c .before .before .refuse .ensures .0
-      ∙ ap (λ (a : Answer (List ℕ)). printed (line-of (and-then a ran)) (c .before .before .before .before .before .before .before .before .before .before .before .before .args .out .now)) (read-refused (c .before .before .before .before .before .before .before .before .before .before .before .before .args .text .now) (replicate 8192 0) (c .before .before .before .before .before .before .before .before .read .result) (c .before .before .before .before .before .before .before .before .read .last .1 .0) (c .before .before .before .before .before .before .before .before .read .ensures .1) (c .before .before .before .before .before .number .given .1) full),
-  c .before .before .refuse .ensures .1,
-)
+slice-aggregate-run-words c = sym (length-take-le _ _ (text-words (c .before .before .before .before .before .before .before .before .before .before .args .text .now) (c .before .before .before .before .before .before .before .before .before .before .pre) (c .before .before .before .before .before .before .pass .result) (replicate 8192 0) (c .before .before .before .before .before .before .pass .last .1 .0) (c .before .before .before .before .before .before .pass .ensures .0) (c .before .before .before .count .given .1) (omega (arith, c .before .if1 .left)) (omega (arith, length-replicate {A = ℕ} 8192 0, c .before .if1 .left)) (c .before .before .before .before .before .before .pass .ensures .1) .room))
 
 returns-2 : tie.Need-returns-2
-returns-2 c = (
-  c .before .before .run-words .ensures .0
-      ∙ ap (λ (a : Answer (List ℕ)). printed (line-of (and-then a ran)) (c .before .before .before .before .before .before .before .before .before .before .before .before .before .args .out .now)) (read-words (c .before .before .before .before .before .before .before .before .before .before .before .before .before .args .text .now) (replicate 8192 0) (c .before .before .before .before .before .before .before .before .before .read .result) (c .before .before .before .before .before .before .before .before .before .read .last .1 .0) (c .before .before .before .before .before .before .before .before .before .read .ensures .1) (c .before .before .before .before .before .before .count .given .1)),
-  c .before .before .run-words .ensures .1,
-)
+returns-2 c = (c .before .before .refuse .ensures .0 ∙ ap (λ (x : Answer (List ℕ)). printed (line-of (and-then x ran)) (c .before .before .before .before .before .before .before .before .before .before .before .before .args .out .now)) (text-breaks (c .before .before .before .before .before .before .before .before .before .before .before .before .args .text .now) (c .before .before .before .before .before .before .before .before .before .before .before .before .pre) (c .before .before .before .before .before .before .before .before .pass .result) (c .before .before .before .before .before .before .before .before .pass .ensures .0) (c .before .before .before .before .before .place .given .1)), c .before .before .refuse .ensures .1)
+
+returns-3 : tie.Need-returns-3
+returns-3 c = (c .before .before .run-words .ensures .0 ∙ ap (λ (x : Answer (List ℕ)). printed (line-of (and-then x ran)) (c .before .before .before .before .before .before .before .before .before .before .before .before .before .before .args .out .now)) (text-words (c .before .before .before .before .before .before .before .before .before .before .before .before .before .before .args .text .now) (c .before .before .before .before .before .before .before .before .before .before .before .before .before .before .pre) (c .before .before .before .before .before .before .before .before .before .before .pass .result) (replicate 8192 0) (c .before .before .before .before .before .before .before .before .before .before .pass .last .1 .0) (c .before .before .before .before .before .before .before .before .before .before .pass .ensures .0) (c .before .before .before .before .before .before .before .count .given .1) (omega (arith, c .before .before .before .before .before .if1 .left)) (omega (arith, length-replicate {A = ℕ} 8192 0, c .before .before .before .before .before .if1 .left)) (c .before .before .before .before .before .before .before .before .before .before .pass .ensures .1) .words), c .before .before .run-words .ensures .1)
 
 pub run-long-spec : {M : Type 1} → statement M
 run-long-spec =
     tie.close
     (tie.spec
-    (λ c. search needs) (λ c κs. search needs) (λ c. search needs) (λ c κs. search needs) (λ c. search needs) array-share-prefix-words
-    slice-aggregate-run-words (λ c κs. search needs) (λ c. search needs) returns (λ c. search needs) returns-2)
+    (λ c. search needs) (λ c κs. search needs) (λ c. search needs) (λ c κs. search needs) (λ c. search needs) (λ c κs. search needs) (λ c. search needs)
+    returns array-share-prefix-words slice-aggregate-run-words (λ c κs. search needs) (λ c. search needs) returns-2 (λ c. search needs) returns-3)
