@@ -21,7 +21,6 @@ use Rattle.states.proofs.Starts.{Begun, started-begun}
 use Rattle.states.proofs.Sure.{sure-of}
 use Rattle.paper.specs.Tree.{Statements}
 use Rattle.paper.specs.Reader as reader
-use Rattle.paper.specs.Rules as rules
 use Rattle.paper.specs.Runs.{Store, Holds}
 use Rattle.paper.specs.Answers as answers
 use Rattle.paper.proofs.Reading.{read-is-code}
@@ -131,7 +130,7 @@ module _ (text : List ℕ) where
 
   -- what the grammar says is what the job says
   text-is : (a : JobAnswer) → TextAnswered text a → a ≡ job.answer text
-  text-is a (page.too-long h) = sym (ap (λ (b : Bool). answer-by b (contents text Start)) (lt-ltb 65536 (length text) h))
+  text-is a (page.too-long h) = sym (ap (λ (b : Bool). answer-by b (contents text Start)) (lt-ltb 65536 (length text) (omega arith)))
   text-is a (page.no-text {place = place} h none longest) = sym (short-text h (breaks-off text place .1 (none, longest)))
   text-is a (page.too-many {vs = vs} h t many) = sym (short-text h (accepts text vs .0 t) ∙ ap (λ (b : Bool). and-then (cond b (Refuses 2 0) (Gives vs)) answers.ran) (lt-ltb 8192 (length vs) many))
   text-is a (page.words {vs = vs} h t few) = sym (short-text h (accepts text vs .0 t) ∙ ap (λ (b : Bool). and-then (cond b (Refuses 2 0) (Gives vs)) answers.ran) (le-ltb 8192 (length vs) few))
