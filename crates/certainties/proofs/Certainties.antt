@@ -56,7 +56,7 @@ use Rattle.certainties.specs.Certainties.{Input, Analyse, AnalyseMarked,
 
 -- ---- 1. Always an answer
 
-is-state : {n : ℕ} (s : State) → Begun n s → page.IsState n s
+pub is-state : {n : ℕ} (s : State) → Begun n s → page.IsState n s
 is-state {n} s b = go (s .live) refl
   where
     go : (l : Bool) → s .live ≡ l → page.IsState n s

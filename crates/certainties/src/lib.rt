@@ -10,7 +10,7 @@ use words::Checked;
 ghost use mathlib.Core.Path.{_≡_};
 ghost use lib.ListN.{length};
 ghost use Rattle.certainties.specs.Certainties.{Analyse, AnalyseMarked, AnalyseLoop, Check, Used};
-ghost use Rattle.certainties.specs.Texts.{Read, Line};
+ghost use Rattle.certainties.specs.Texts.{Read, Line, Run, RunMarked, RunLoop};
 
 fn analyse(words: &[u64], n: usize, start: Start, unroll: usize) -> Answer
     ensures { λ r. ⌜ ((long : length (start .cells) ≡ 64) → Analyse (record { words = now (words .entry); n = n; start = start; unroll = unroll; sixty-four = long }) r) ⌝ }
@@ -52,4 +52,28 @@ fn line(answer: Answer, n: usize, out: &mut [u8]) -> Printed
     ensures { λ r. ⌜ Line answer n (now (out .entry)) r (now (out .exit)) ⌝ }
 {
     text::line(answer, n, out)
+}
+
+fn run(text: &[u8], out: &mut [u8]) -> Printed
+    ensures { λ r. ⌜ Run (now (text .entry)) (now (out .entry)) r (now (out .exit)) ⌝ }
+{
+    woolquern::run(text, out)
+}
+
+fn run_marked(text: &[u8], marks: &mut [u8], out: &mut [u8]) -> Printed
+    ensures { λ r. ⌜ RunMarked (now (text .entry)) (now (marks .entry)) (now (out .entry)) r (now (marks .exit)) (now (out .exit)) ⌝ }
+{
+    woolquern::run_marked(text, marks, out)
+}
+
+fn run_loop(
+    text: &[u8],
+    unroll: usize,
+    counts: &mut [u64],
+    settled: &mut [u8],
+    out: &mut [u8],
+) -> Printed
+    ensures { λ r. ⌜ RunLoop (now (text .entry)) unroll (now (counts .entry)) (now (settled .entry)) (now (out .entry)) r (now (counts .exit)) (now (settled .exit)) (now (out .exit)) ⌝ }
+{
+    woolquern::run_loop(text, unroll, counts, settled, out)
 }
