@@ -1,10 +1,10 @@
-//! Woolquern's functions for Rust, as `woolquern.h` declares them for C: `include!` this file, and
-//! link target/staticlib/libwoolquern.a (x86-64 Linux; `rt staticlib woolquern` proves and writes it).
-//!
-//! A slice is a pointer and a length; no two of the slices of one call may overlap. Every function
-//! gives the number of bytes that it wrote to the start of `out`: one line with its line feed. It
-//! gives 0 where `out` is too short for it: then `out` and every other buffer is as it was. 2,048
-//! bytes are enough for every line. What lies beyond the bytes written is left as it was.
+// Woolquern's functions for Rust, as `woolquern.h` declares them for C: `include!` this file, and
+// link target/staticlib/libwoolquern.a (x86-64 Linux; `rt staticlib woolquern` proves and writes it).
+//
+// A slice is a pointer and a length; no two of the slices of one call may overlap. Every function
+// gives the number of bytes that it wrote to the start of `out`: one line with its line feed. It
+// gives 0 where `out` is too short for it: then `out` and every other buffer is as it was. 2,048
+// bytes are enough for every line. What lies beyond the bytes written is left as it was.
 
 extern "C" {
     /// The whole job: the line for a text, with every variable starting at [0,0] and unroll 0 where a

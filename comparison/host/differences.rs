@@ -106,6 +106,12 @@ fn continuous() -> Vec<Difference> {
         returns("[1,4,3,0,1,1,0,0,0]", "refused 6 at 6", ""),
         returns("[2,6,1,0,0,13]", "refused 6 at 5", "empty"),
         returns("[2,1,0,0,13,2,0,0,0,0,0,0]", "refused 6 at 4", "{0}"),
+        stops_with("[2,1,0,0,13,7,1,0,0]", "refused 6 at 4", &cannot_normalize("a")),
+        stops_with(
+            "[1,5,0,0,5,0,1,1,0,1,1,1,2]",
+            "refused 6 at 12",
+            "Cannot widen non-range supports",
+        ),
     ]
 }
 
@@ -117,10 +123,15 @@ pub fn of_callers() -> Vec<Difference> {
     let unassigned = "assertion failed: v.id() < result.num_vars()";
     vec![
         returns("[1,3,0,0]", "refused 7 at 0", "{5, ..., 3}").from(&[(5, 3)], 0),
+        returns("[1,6]", "refused 7 at 1", "empty").from(&[(5, 3)], 0).after_empty(),
         returns("[1,1,1,0,2]", "refused 5 at 2", "{0}, {0, ..., 1}").from(one, 0),
         stops_with("[1,1,1,0,2]", "refused 5 at 2", unassigned).from(&[], 0),
         stops_with("[1,3,0,0]", "refused 5 at 2", NO_SUCH_VARIABLE).from(&[], 0),
         returns("[2,6,3,0,0]", "refused 5 at 3", "empty").from(&[], 0),
+        returns("[2,6,1,1,0,2]", "refused 5 at 3", "empty").from(one, 0),
+        stops_with("[2,6,1,1,0,2]", "refused 5 at 3", unassigned).from(&[], 0),
+        stops_with("[1,4,1,0,0,0,0]", "refused 5 at 3", NO_SUCH_VARIABLE).from(&[], 0),
+        returns("[1,4,3,0,3,0,0,0]", "refused 5 at 5", "").from(&[], 0),
         returns("[1,4,2,0,0,0,0]", "refused 5 at 3", "").from(&[], 0),
         returns("[1,1,0,0,3,1]", "refused 5 at 5", "{0, ..., 1}").from(one, 0),
         returns("[1,5,0,0,5,0,0]", "refused 4 at 0", "empty").from(&[], 10_001),
@@ -168,6 +179,14 @@ impl Difference {
             start: Some(Start { ranges, unroll }),
             ..self
         }
+    }
+
+    /// With an Empty range before the others.
+    fn after_empty(mut self) -> Difference {
+        if let Some(start) = &mut self.start {
+            start.ranges.insert(0, None);
+        }
+        self
     }
 
     /// What is expected beside what is said, by the model and by genfer.
