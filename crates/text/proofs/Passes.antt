@@ -2,7 +2,7 @@
 use mathlib.Core.Path.{_≡_, refl, sym, ap, ap₂, _∙_, subst}
 use mathlib.Core.Logic.{_⊎_, inl, inr}
 use mathlib.Core.Bool.{Bool, true, false, cond}
-use mathlib.Core.List.{List, _++_, append-nil}
+use mathlib.Core.List.{List, [], _∷_, _++_, append-nil}
 use Prim.Native.Nat.{ℕ, suc, _+_, _≤_, _<_}
 use native.Mathlib.Omega.{arith}
 use native.Mathlib.Numerals.{add-one}
@@ -18,7 +18,7 @@ use Rattle.text.specs.declared.Mode.{Mode}
 use Rattle.text.specs.declared.Mode.the-variants.{Start, Opened, Digits, Ended, Parted, Closed}
 use Rattle.text.specs.declared.Move.{Move}
 use Rattle.text.specs.declared.Move.the-variants.{Stop, To, Push}
-use Rattle.text.specs.Machine.{class-of, step, Contents, holds, breaks, later, push, whole, at-end, follow, contents, found, put, FitsIn, settle, outcome}
+use Rattle.text.specs.Machine.{class-of, step, Contents, holds, breaks, later, push, whole, at-end, follow, contents, numbers-by, numbers, stored, found, put, FitsIn, settle, outcome}
 use Rattle.text.specs.Answers.{leaves, refused, done}
 
 -- a byte that is none of the single ones
@@ -83,109 +83,55 @@ pub scan-short : (t : List ℕ) (i n : ℕ) (m : Mode) → i ≤ length t → le
     → shift i n (found (contents (drop i t) m)) ≡ Breaks i
 scan-short t i n m a b e = scan-end t i n m a b ∙ rw e (ap Breaks (omega arith))
 
--- ---- what it lays into the words
+-- ---- what it stores
 
--- after n numbers: the words with the rest behind the first n, and that there is room
-abbrev pub lay : ℕ → Contents → List ℕ → List ℕ
-lay n (holds vs) w = take n w ++ vs ++ drop (n + length vs) w
-lay n (breaks k) w = w
+numbers-turn : (t : List ℕ) (i : ℕ) (m : Mode) → i < length t → numbers (drop i t) m ≡ numbers-by (numbers (drop (i + 1) t)) (move-at t i m)
+numbers-turn t i m h = rw (add-one, drop-cons t i 0)
 
-abbrev pub Room : ℕ → Contents → ℕ → Type 0
-Room n (holds vs) l = n + length vs ≤ l
-Room n (breaks k) l = ⊥
+-- numbers that fit stand in front
+stored-at : (vs w : List ℕ) (n : ℕ) → n + length vs ≤ length w → stored n vs w ≡ take n w ++ vs ++ drop (n + length vs) w
+stored-at [] w n h =
+    let e : n ≡ n + 0 = omega arith in
+    sym (take-append-drop n w) ∙ ap₂ (λ (a b : List ℕ). a ++ b) (sym (append-nil (take n w))) (ap (λ (k : ℕ). drop k w) e)
+stored-at (v ∷ vs) w n h =
+    let e : n + 1 + length vs ≡ n + suc (length vs) = omega arith in
+    let room : n + 1 + length vs ≤ length (set w n v) = rw length-set (omega arith) in
+    stored-at vs (set w n v) (n + 1) room
+    ∙ ap₂ (λ (a b : List ℕ). a ++ b)
+    (ap (λ (l : List ℕ). l ++ vs) (ap (λ (k : ℕ). take k (set w n v)) (add-one n) ∙ take-suc-set w n v (omega arith)) ∙ append-snoc (take n w) v vs)
+    (drop-set-lt (n + 1 + length vs) w n v (omega arith) ∙ ap (λ (k : ℕ). drop k w) e)
 
--- what holds of the words w and of where the pass is, w₀ being the words at the start
-pub record Filling (t w₀ w : List ℕ) (m : Mode) (n i : ℕ) : Type 0 where
-  pub place : i ≤ length t
-  pub count : n ≤ i
-  pub same : length w ≡ length w₀
-  pub room : Room n (contents (drop i t) m) (length w)
-  pub lays : put (contents t Start) w₀ ≡ lay n (contents (drop i t) m) w
+-- a text that holds numbers has them met: one byte, where that is so of the rest
+module _ (t vs : List ℕ) (rest : (q : Mode) (ws : List ℕ) → contents t q ≡ holds ws → numbers t q ≡ ws) where
+  held-later : (q : Mode) (x : Contents) → contents t q ≡ x → later x ≡ holds vs → numbers t q ≡ vs
+  held-later q (holds ws) h k = let same : ws ≡ vs = cc in rest q ws h ∙ same
+  held-later q (breaks j) h k = let z : _≡_ {A = ℕ} 0 1 = cc in absurd (omega arith)
 
-start-room : (r : Contents) (l : ℕ) → FitsIn r l → Room 0 r l
-start-room (holds vs) l h = omega arith
-start-room (breaks k) l h = h
+  held-push : (v : ℕ) (q : Mode) (x : Contents) → contents t q ≡ x → push v x ≡ holds vs → v ∷ numbers t q ≡ vs
+  held-push v q (holds ws) h k = let same : v ∷ ws ≡ vs = cc in ap (λ (l : List ℕ). v ∷ l) (rest q ws h) ∙ same
+  held-push v q (breaks j) h k = let z : _≡_ {A = ℕ} 0 1 = cc in absurd (omega arith)
 
-start-lay : (r : Contents) (w : List ℕ) → put r w ≡ lay 0 r w
-start-lay (holds vs) w =
-    let e : length vs ≡ 0 + length vs = omega arith in
-    ap (λ (k : ℕ). vs ++ drop k w) e
-start-lay (breaks k) w = refl
+  held-by : (x : Move) → follow (contents t) x ≡ holds vs → numbers-by (numbers t) x ≡ vs
+  held-by Stop h = let z : _≡_ {A = ℕ} 0 1 = cc in absurd (omega arith)
+  held-by (To q) h = held-later q (contents t q) refl h
+  held-by (Push v q) h = held-push v q (contents t q) refl h
 
-pub fill-start : (t w : List ℕ) → FitsIn (contents t Start) (length w) → Filling t w w Start 0 0
-fill-start t w h = record {
-  place = omega arith;
-  count = omega arith;
-  same = refl;
-  room = start-room (contents t Start) (length w) h;
-  lays = start-lay (contents t Start) w;
-}
+held-end : (b : Bool) (vs : List ℕ) → cond b (holds []) (breaks 0) ≡ holds vs → [] ≡ vs
+held-end true vs e = cc
+held-end false vs e = let z : _≡_ {A = ℕ} 0 1 = cc in absurd (omega arith)
 
-later-room : (n : ℕ) (r : Contents) (l : ℕ) → Room n (later r) l → Room n r l
-later-room n (holds vs) l h = h
-later-room n (breaks k) l h = h
+held : (t : List ℕ) (m : Mode) (vs : List ℕ) → contents t m ≡ holds vs → numbers t m ≡ vs
+held [] m vs e = held-end (whole m) vs e
+held (b ∷ t) m vs e = held-by t vs (λ q ws h. held t q ws h) (step m (class-of b) b) e
 
-later-lay : (n : ℕ) (r : Contents) (w : List ℕ) → lay n (later r) w ≡ lay n r w
-later-lay n (holds vs) w = refl
-later-lay n (breaks k) w = refl
-
-push-room : (n v : ℕ) (r : Contents) (l : ℕ) → Room n (push v r) l → (n < l) × Room (n + 1) r l
-push-room n v (holds vs) l h = (omega arith, omega arith)
-push-room n v (breaks k) l h = absurd h
-
-push-lay : (n v : ℕ) (r : Contents) (w : List ℕ) → Room n (push v r) (length w) → lay n (push v r) w ≡ lay (n + 1) r (set w n v)
-push-lay n v (holds vs) w h =
-    let e : n + suc (length vs) ≡ n + 1 + length vs = omega arith in
-    ap₂ (λ (a b : List ℕ). a ++ b)
-    (sym (append-snoc (take n w) v vs) ∙ ap (λ (l : List ℕ). l ++ vs) (sym (take-suc-set w n v (omega arith)) ∙ ap (λ (k : ℕ). take k (set w n v)) (sym (add-one n))))
-    (ap (λ (k : ℕ). drop k w) e ∙ sym (drop-set-lt (n + 1 + length vs) w n v (omega arith)))
-push-lay n v (breaks k) w h = absurd h
-
-end-lay : (n : ℕ) (m : Mode) (w : List ℕ) → Room n (at-end m) (length w) → lay n (at-end m) w ≡ w
-end-lay n Start w h = refl
-end-lay n Opened w h = refl
-end-lay n (Digits v) w h = refl
-end-lay n Ended w h = refl
-end-lay n Parted w h = refl
-end-lay n Closed w h =
-    let e : n + 0 ≡ n = omega arith in
-    ap₂ (λ (a b : List ℕ). a ++ b) (append-nil (take n w)) (ap (λ (k : ℕ). drop k w) e) ∙ take-append-drop n w
-
-module _ {t w₀ w : List ℕ} {m : Mode} {n i : ℕ} (f : Filling t w₀ w m n i) where
-  took : {v : Move} → i < length t → v ≡ move-at t i m → contents (drop i t) m ≡ follow (contents (drop (i + 1) t)) v
-  took h e = turn t i m h ∙ ap (follow (contents (drop (i + 1) t))) (sym e)
-
-  pub fill-stop : i < length t → Stop ≡ move-at t i m → ⊥
-  fill-stop h e = subst (λ (r : Contents). Room n r (length w)) (took h e) (f .room)
-
-  pub fill-to : {q : Mode} → i < length t → To q ≡ move-at t i m → Filling t w₀ w q n (i + 1)
-  fill-to {q} h e = record {
-    place = omega arith;
-    count = omega (arith, f .count);
-    same = f .same;
-    room = later-room n (contents (drop (i + 1) t) q) (length w) (subst (λ (r : Contents). Room n r (length w)) (took h e) (f .room));
-    lays = f .lays ∙ ap (λ (r : Contents). lay n r w) (took h e) ∙ later-lay n (contents (drop (i + 1) t) q) w;
-  }
-
-  pub fill-room : {v : ℕ} {q : Mode} → i < length t → Push v q ≡ move-at t i m → n < length w
-  fill-room {v} {q} h e = push-room n v (contents (drop (i + 1) t) q) (length w) (subst (λ (r : Contents). Room n r (length w)) (took h e) (f .room)) .0
-
-  pub fill-push : {v : ℕ} {q : Mode} → i < length t → Push v q ≡ move-at t i m → Filling t w₀ (set w n v) q (n + 1) (i + 1)
-  fill-push {v} {q} h e =
-      let h′ : Room n (push v (contents (drop (i + 1) t) q)) (length w) = subst (λ (r : Contents). Room n r (length w)) (took h e) (f .room) in
-      record {
-        place = omega arith;
-        count = omega (arith, f .count);
-        same = length-set w n v ∙ f .same;
-        room = rw length-set (push-room n v (contents (drop (i + 1) t) q) (length w) h′ .1);
-        lays = f .lays ∙ ap (λ (r : Contents). lay n r w) (took h e) ∙ push-lay n v (contents (drop (i + 1) t) q) w h′;
-      }
-
-  pub fill-end : length t ≤ i → w ≡ put (contents t Start) w₀
-  fill-end h =
-      let p : i ≡ length t = omega (arith, f .place) in
-      let e : contents (drop i t) m ≡ at-end m = ap (λ (k : ℕ). contents (drop k t) m) p ∙ ap (λ (l : List ℕ). contents l m) (drop-length t) in
-      sym (f .lays ∙ ap (λ (r : Contents). lay n r w) e ∙ end-lay n m w (subst (λ (r : Contents). Room n r (length w)) e (f .room)))
+pub stored-put : (t w : List ℕ) → FitsIn (contents t Start) (length w) → stored 0 (numbers t Start) w ≡ put (contents t Start) w
+stored-put t w h = go (contents t Start) refl h
+  where
+    go : (x : Contents) → contents t Start ≡ x → FitsIn x (length w) → stored 0 (numbers t Start) w ≡ put x w
+    go (holds vs) e f =
+        let k : 0 + length vs ≡ length vs = omega arith in
+        ap (λ (l : List ℕ). stored 0 l w) (held t Start vs e) ∙ stored-at vs w 0 (omega arith) ∙ ap (λ (j : ℕ). vs ++ drop j w) k
+    go (breaks j) e f = absurd f
 
 -- ---- a pass
 
@@ -195,25 +141,22 @@ pub record Passing (t w₀ w : List ℕ) (m : Mode) (n i : ℕ) : Type 0 where
   pub count : n ≤ i
   pub same : length w ≡ length w₀
   pub finds : found (contents t Start) ≡ shift i n (found (contents (drop i t) m))
-  pub fills : FitsIn (contents t Start) (length w₀) → Filling t w₀ w m n i
+  pub stores : stored 0 (numbers t Start) w₀ ≡ stored n (numbers (drop i t) m) w
 
 -- what a pass that ends has answered, and left in the words
 pub record Passed (t w₀ : List ℕ) (r : Found) (w : List ℕ) : Type 0 where
   pub answer : r ≡ found (contents t Start)
-  pub words : FitsIn (contents t Start) (length w₀) → w ≡ put (contents t Start) w₀
+  pub words : w ≡ stored 0 (numbers t Start) w₀
 
 pub pass-start : (t w : List ℕ) → Passing t w w Start 0 0
-pass-start t w = record { place = omega arith; count = omega arith; same = refl; finds = shift-start (found (contents t Start)); fills = λ h. fill-start t w h }
+pass-start t w = record { place = omega arith; count = omega arith; same = refl; finds = shift-start (found (contents t Start)); stores = refl }
 
 module _ {t w₀ w : List ℕ} {m : Mode} {n i : ℕ} (p : Passing t w₀ w m n i) where
+  met : {v : Move} → i < length t → v ≡ move-at t i m → stored 0 (numbers t Start) w₀ ≡ stored n (numbers-by (numbers (drop (i + 1) t)) v) w
+  met h e = p .stores ∙ ap (λ (l : List ℕ). stored n l w) (numbers-turn t i m h ∙ ap (numbers-by (numbers (drop (i + 1) t))) (sym e))
+
   pub pass-to : {q : Mode} → i < length t → To q ≡ move-at t i m → Passing t w₀ w q n (i + 1)
-  pass-to {q} h e = record {
-    place = omega arith;
-    count = omega (arith, p .count);
-    same = p .same;
-    finds = p .finds ∙ scan-to t i n m q h e;
-    fills = λ f. fill-to (p .fills f) h e;
-  }
+  pass-to {q} h e = record { place = omega arith; count = omega (arith, p .count); same = p .same; finds = p .finds ∙ scan-to t i n m q h e; stores = met h e }
 
   pub pass-push : {v : ℕ} {q : Mode} → i < length t → Push v q ≡ move-at t i m → Passing t w₀ (set w n v) q (n + 1) (i + 1)
   pass-push {v} {q} h e = record {
@@ -221,17 +164,22 @@ module _ {t w₀ w : List ℕ} {m : Mode} {n i : ℕ} (p : Passing t w₀ w m n 
     count = omega (arith, p .count);
     same = length-set w n v ∙ p .same;
     finds = p .finds ∙ scan-push t i n v m q h e;
-    fills = λ f. fill-push (p .fills f) h e;
+    stores = met h e;
   }
 
   pub pass-stop : i < length t → Stop ≡ move-at t i m → Passed t w₀ (Breaks i) w
-  pass-stop h e = record { answer = sym (p .finds ∙ scan-stop t i n m h e); words = λ f. absurd (fill-stop (p .fills f) h e) }
+  pass-stop h e = record { answer = sym (p .finds ∙ scan-stop t i n m h e); words = sym (met h e) }
+
+  all-met : length t ≤ i → w ≡ stored 0 (numbers t Start) w₀
+  all-met h =
+      let end : i ≡ length t = omega (arith, p .place) in
+      sym (p .stores ∙ ap (λ (l : List ℕ). stored n (numbers l m) w) (ap (λ (k : ℕ). drop k t) end ∙ drop-length t))
 
   pub pass-whole : length t ≤ i → whole m ≡ true → Passed t w₀ (Holds n) w
-  pass-whole h e = record { answer = sym (p .finds ∙ scan-whole t i n m (p .place) h e); words = λ f. fill-end (p .fills f) h }
+  pass-whole h e = record { answer = sym (p .finds ∙ scan-whole t i n m (p .place) h e); words = all-met h }
 
   pub pass-short : length t ≤ i → whole m ≡ false → Passed t w₀ (Breaks i) w
-  pass-short h e = record { answer = sym (p .finds ∙ scan-short t i n m (p .place) h e); words = λ f. fill-end (p .fills f) h }
+  pass-short h e = record { answer = sym (p .finds ∙ scan-short t i n m (p .place) h e); words = all-met h }
 
 -- ---- what each way of `read` leads to
 

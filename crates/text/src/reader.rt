@@ -6,7 +6,7 @@ use crate::Move;
 use crate::Reading;
 ghost use mathlib.Core.Path.{_≡_};
 ghost use Prim.Native.Nat.{_-_};
-ghost use lib.ListN.{length, set};
+ghost use lib.ListN.{set};
 ghost use Rattle.text.specs.Answers as answers;
 ghost use Rattle.text.specs.Machine as machine;
 ghost use Rattle.text.specs.Says.{Says};
@@ -198,10 +198,10 @@ fn store(words: &mut [u64], at: usize, word: u64)
     }
 }
 
-// A pass over the text: whether it is one, and how many numbers it holds. They go into the words as far as those reach: for words that nobody else sees.
+// A pass over the text: whether it is one, and how many numbers it holds. What it meets of them goes into the words, as far as those reach.
 pub fn pass(text: &[u8], words: &mut [u64]) -> Found
     ensures { λ r. ⌜ r ≡ machine.found (machine.contents (now (text .entry)) Mode.Start) ⌝ }
-    ensures { λ _. ⌜ (machine.FitsIn (machine.contents (now (text .entry)) Mode.Start) (length (now (words .entry))) → now (words .exit) ≡ machine.put (machine.contents (now (text .entry)) Mode.Start) (now (words .entry))) ⌝ }
+    ensures { λ _. ⌜ now (words .exit) ≡ machine.stored 0 (machine.numbers (now (text .entry)) Mode.Start) (now (words .entry)) ⌝ }
 {
     let mut m = Mode::Start;
     let mut n: usize = 0;

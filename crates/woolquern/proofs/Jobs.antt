@@ -25,7 +25,8 @@ use Rattle.text.specs.declared.Reading.{Reading as Text-reading}
 use Rattle.text.specs.declared.Reading.the-variants as reading
 use Rattle.text.specs.declared.Found.{Found}
 use Rattle.text.specs.declared.Found.the-variants.{Holds, Breaks}
-use Rattle.text.specs.Machine.{Contents, holds, breaks, contents, found, put, FitsIn, outcome, settle}
+use Rattle.text.specs.Machine.{Contents, holds, breaks, contents, numbers, stored, found, put, FitsIn, outcome, settle}
+use Rattle.text.proofs.Passes.{stored-put}
 use Rattle.text.specs.declared.Mode.the-variants.{Start}
 use Rattle.text.specs.Line.{ascii, body, line, printed}
 use Rattle.text.specs.declared.Printed.{Printed}
@@ -98,8 +99,8 @@ module _ (text : List ℕ) (short : length text ≤ 65536) where
     pub room : count ≤ length after
 
   pub text-words : {count : ℕ} (r : Found) (before after : List ℕ) → r ≡ found (contents text Start) → r ≡ Holds count → count ≤ 8192 → count ≤ length before →
-      (FitsIn (contents text Start) (length before) → after ≡ put (contents text Start) before) → Passed count after
-  text-words {count} r before after e is few fits h = go (contents text Start) (sym is ∙ e) of-contents h
+      after ≡ stored 0 (numbers text Start) before → Passed count after
+  text-words {count} r before after e is few fits h = go (contents text Start) (sym is ∙ e) of-contents (λ f. h ∙ stored-put text before f)
     where
       go : (x : Contents) → Holds count ≡ found x → words-in x ≡ words-of text → (FitsIn x (length before) → after ≡ put x before) → Passed count after
       go (holds ws) q w f =
@@ -154,15 +155,30 @@ ran-line ws {n} h e = go (analysed ws n zeros 0) ∙ ap line-of (sym (ran-sound 
 -- ---- the number of bytes written
 
 -- every line has a byte
-pub some-byte : (a : Answer Outcome) → 0 < length (line-of a)
-some-byte (Gives o) = omega (arith, length-append (body (o .n) (Gives (o .state))) (ascii "\n"))
-some-byte (Refuses number place) = omega (arith, length-append (body 0 (Refuses number place)) (ascii "\n"))
+some-body : (n : ℕ) (a : Answer State) → 0 < length (line n a)
+some-body n a = omega (arith, length-append (body n a) (ascii "\n"))
 
--- so none written says that the buffer was too short
-pub nothing-short : (a : Answer Outcome) (out : List ℕ) (r : Printed) {after : List ℕ} → leaves (of-printed r) after ≡ printed (line-of a) out → written (of-printed r) ≡ 0 → r ≡ Short
-nothing-short a out Short e none = refl
-nothing-short a out (Wrote count) e none = absurd (go (ltb (length out) (length (line-of a))) (ap (λ (o : texts.Outcome). o .answer) e))
+pub some-byte : (a : Answer Outcome) → 0 < length (line-of a)
+some-byte (Gives o) = some-body (o .n) (Gives (o .state))
+some-byte (Refuses number place) = some-body 0 (Refuses number place)
+
+-- a printing of such a line
+pub record Prints (out : List ℕ) (o : texts.Outcome) : Type 0 where
+  pub bytes : List ℕ
+  pub some : 0 < length bytes
+  pub is : o ≡ printed bytes out
+
+pub prints : (n : ℕ) (a : Answer State) (out : List ℕ) → Prints out (printed (line n a) out)
+prints n a out = record { bytes = line n a; some = some-body n a; is = refl }
+
+pub prints-answer : (a : Answer Outcome) (out : List ℕ) → Prints out (printed (line-of a) out)
+prints-answer a out = record { bytes = line-of a; some = some-byte a; is = refl }
+
+-- none written says that the buffer was too short
+pub nothing-short : {out : List ℕ} (o : texts.Outcome) (r : Printed) {after : List ℕ} → Prints out o → leaves (of-printed r) after ≡ o → written (of-printed r) ≡ 0 → r ≡ Short
+nothing-short o Short p e none = refl
+nothing-short {out} o (Wrote count) p e none = absurd (go (ltb (length out) (length (p .bytes))) (ap (λ (o : texts.Outcome). o .answer) (e ∙ p .is)))
   where
-    go : (b : Bool) → _≡_ {A = Answer ℕ} (Gives count) (cond b (texts.refused 2 0 out) (texts.done (line-of a) out) .answer) → ⊥
+    go : (b : Bool) → _≡_ {A = Answer ℕ} (Gives count) (cond b (texts.refused 2 0 out) (texts.done (p .bytes) out) .answer) → ⊥
     go true q = let z : _≡_ {A = ℕ} 0 1 = cc in omega arith
-    go false q = let z : count ≡ length (line-of a) = cc in omega (arith, some-byte a)
+    go false q = let z : count ≡ length (p .bytes) = cc in omega (arith, p .some)

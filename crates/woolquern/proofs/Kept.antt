@@ -27,7 +27,7 @@ use Rattle.text.specs.declared.Printed.{Printed}
 use Rattle.text.specs.declared.Printed.the-variants.{Wrote, Short}
 use Rattle.woolquern.specs.Job.{Entered, entered-by, refusal, left, beside, marking}
 use Rattle.woolquern.specs.Found.{found-in}
-use Rattle.woolquern.proofs.Jobs.{ran-sound}
+use Rattle.woolquern.proofs.Jobs.{ran-sound, Prints, prints}
 
 -- marks behind the first k words leave those as they are
 take-mark : (k : ℕ) (places marks : List ℕ) → take k (mark places marks) ≡ mark places (take k marks)
@@ -113,3 +113,8 @@ kept-by found n count marks after out r {rest} e h p q =
     let p' : leaves (of-printed r) rest ≡ printed (line n (Gives (found .answer .state))) out = p ∙ ap (λ (v : Verdict). printed (line n (of-verdict v (found .answer .state))) out) e in
     subst (λ (o : texts.Outcome). left (of-printed r) after rest ≡ record { printing = o; marks = beside (o .answer) m marks }) p' (ap (λ (l : List ℕ). left (of-printed r) l rest) q)
     ∙ ap (λ (a : Answer Entered). marking a marks out) (found-good found n count (length marks) e h)
+
+-- whatever the answer, a line is printed
+pub prints-marked : (a : Answer Entered) (marks out : List ℕ) → Prints out (marking a marks out .printing)
+prints-marked (Gives e) marks out = prints (e .outcome .n) (Gives (e .outcome .state)) out
+prints-marked (Refuses number place) marks out = prints 0 (Refuses number place) out

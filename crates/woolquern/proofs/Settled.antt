@@ -27,6 +27,7 @@ use Rattle.text.specs.Line.{line, printed}
 use Rattle.text.specs.declared.Printed.{Printed}
 use Rattle.woolquern.specs.Job.{Loop, ran-loop, with-room, refusal, settled-line, counts-of, all-left, beside, looping}
 use Rattle.woolquern.specs.Found.{loop-by, loop-of}
+use Rattle.woolquern.proofs.Jobs.{Prints, prints}
 
 -- ---- the words of a loop
 
@@ -121,3 +122,8 @@ four-put (x ∷ y ∷ z ∷ w ∷ l) a b c d h = refl
 -- a store leaves the room
 pub still-room : (l m : List ℕ) (k : ℕ) → length m ≡ length l → 4 ≤ length l → k < 4 → k < length m
 still-room l m k e h less = omega (arith, e)
+
+-- whatever the answer, a line is printed
+pub prints-loop : (a : Answer Loop) (counts settled out : List ℕ) → Prints out (looping a counts settled out .printing)
+prints-loop (Gives l) counts settled out = prints (l .n) (Gives (l .looped .exits)) out
+prints-loop (Refuses number place) counts settled out = prints 0 (Refuses number place) out

@@ -33,6 +33,7 @@ pub extern "C" fn woolquern_marks(text: &[u8], marks: &mut [u8], out: &mut [u8])
     ensures { λ r. ⌜ r ≡ job.written (job.run-marked (now (text .entry)) (now (marks .entry)) (now (out .entry)) .printing .answer) ⌝ }
     ensures { λ _. ⌜ now (marks .exit) ≡ job.run-marked (now (text .entry)) (now (marks .entry)) (now (out .entry)) .marks ⌝ }
     ensures { λ _. ⌜ now (out .exit) ≡ job.run-marked (now (text .entry)) (now (marks .entry)) (now (out .entry)) .printing .buffer ⌝ }
+    ensures { λ r. ⌜ (r ≡ 0 → length (now (out .entry)) < 2048) ⌝ }
 {
     let printed = crate::run_marked(text, marks, out);
     written(printed)
@@ -51,6 +52,7 @@ pub extern "C" fn woolquern_loop(
     ensures { λ _. ⌜ now (counts .exit) ≡ job.run-loop (now (text .entry)) unroll (now (counts .entry)) (now (settled .entry)) (now (out .entry)) .counts ⌝ }
     ensures { λ _. ⌜ now (settled .exit) ≡ job.run-loop (now (text .entry)) unroll (now (counts .entry)) (now (settled .entry)) (now (out .entry)) .settled ⌝ }
     ensures { λ _. ⌜ now (out .exit) ≡ job.run-loop (now (text .entry)) unroll (now (counts .entry)) (now (settled .entry)) (now (out .entry)) .printing .buffer ⌝ }
+    ensures { λ r. ⌜ (r ≡ 0 → length (now (out .entry)) < 2048) ⌝ }
 {
     let printed = crate::run_loop(text, unroll, counts, settled, out);
     written(printed)

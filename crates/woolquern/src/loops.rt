@@ -5,9 +5,11 @@ use text::Printed;
 use text::Reading;
 use words::Checked;
 ghost use mathlib.Core.Path.{_≡_};
+ghost use Prim.Native.Nat.{_<_};
 ghost use lib.ListN.{length};
 ghost use Rattle.states.specs.Answers.{and-then};
 ghost use Rattle.text.specs.Answers.{of-printed};
+ghost use Rattle.text.specs.declared.Printed.the-variants.{Short};
 ghost use Rattle.woolquern.specs.Job as job;
 ghost use Rattle.woolquern.specs.Found.{loop-of};
 
@@ -20,6 +22,7 @@ fn keep(
     out: &mut [u8],
 ) -> Printed
     ensures { λ r. ⌜ job.all-left (of-printed r) (now (counts .exit)) (now (settled .exit)) (now (out .exit)) ≡ job.looping (and-then (loop-of found n) (λ l. job.with-room (length (now (counts .entry))) (length (now (settled .entry))) l)) (now (counts .entry)) (now (settled .entry)) (now (out .entry)) ⌝ }
+    ensures { λ r. ⌜ (r ≡ Short → length (now (out .entry)) < 2048) ⌝ }
 {
     let verdict = found.verdict;
     if let Verdict::Refused(number, place) = verdict {
@@ -55,6 +58,7 @@ fn run_words(
     out: &mut [u8],
 ) -> Printed
     ensures { λ r. ⌜ job.all-left (of-printed r) (now (counts .exit)) (now (settled .exit)) (now (out .exit)) ≡ job.looping (and-then (job.ran-loop (now (words .entry)) unroll) (λ l. job.with-room (length (now (counts .entry))) (length (now (settled .entry))) l)) (now (counts .entry)) (now (settled .entry)) (now (out .entry)) ⌝ }
+    ensures { λ r. ⌜ (r ≡ Short → length (now (out .entry)) < 2048) ⌝ }
 {
     if 8192 < words.len() {
         return crate::refuse(4, 0, out);
@@ -77,6 +81,7 @@ pub fn run_loop(
     out: &mut [u8],
 ) -> Printed
     ensures { λ r. ⌜ job.all-left (of-printed r) (now (counts .exit)) (now (settled .exit)) (now (out .exit)) ≡ job.run-loop (now (text .entry)) unroll (now (counts .entry)) (now (settled .entry)) (now (out .entry)) ⌝ }
+    ensures { λ r. ⌜ (r ≡ Short → length (now (out .entry)) < 2048) ⌝ }
 {
     let mut words = [0; 8192];
     match text::read(text, &mut words) {

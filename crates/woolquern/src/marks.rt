@@ -5,9 +5,10 @@ use text::Printed;
 use text::Reading;
 use words::Checked;
 ghost use mathlib.Core.Path.{_≡_};
-ghost use Prim.Native.Nat.{_≤_};
+ghost use Prim.Native.Nat.{_≤_, _<_};
 ghost use lib.ListN.{length};
 ghost use Rattle.text.specs.Answers.{of-printed};
+ghost use Rattle.text.specs.declared.Printed.the-variants.{Short};
 ghost use Rattle.text.specs.Draft.{Put};
 ghost use Rattle.woolquern.specs.Job as job;
 ghost use Rattle.woolquern.specs.Found.{found-in};
@@ -29,6 +30,7 @@ fn put(bytes: &[u8], buffer: &mut [u8]) -> usize
 fn keep(found: Marked, n: usize, count: usize, marks: &mut [u8], out: &mut [u8]) -> Printed
     requires { ⌜ count ≤ length (found .marks) ⌝ }
     ensures { λ r. ⌜ job.left (of-printed r) (now (marks .exit)) (now (out .exit)) ≡ job.marking (found-in found n count (length (now (marks .entry)))) (now (marks .entry)) (now (out .entry)) ⌝ }
+    ensures { λ r. ⌜ (r ≡ Short → length (now (out .entry)) < 2048) ⌝ }
 {
     let answer = found.answer;
     let verdict = answer.verdict;
@@ -50,6 +52,7 @@ fn keep(found: Marked, n: usize, count: usize, marks: &mut [u8], out: &mut [u8])
 // The line for a list of words, and the marks beside it.
 fn run_words(words: &[u64], marks: &mut [u8], out: &mut [u8]) -> Printed
     ensures { λ r. ⌜ job.left (of-printed r) (now (marks .exit)) (now (out .exit)) ≡ job.marking (job.entered-by (now (words .entry)) (length (now (marks .entry)))) (now (marks .entry)) (now (out .entry)) ⌝ }
+    ensures { λ r. ⌜ (r ≡ Short → length (now (out .entry)) < 2048) ⌝ }
 {
     if 8192 < words.len() {
         return crate::refuse(4, 0, out);
@@ -66,6 +69,7 @@ fn run_words(words: &[u64], marks: &mut [u8], out: &mut [u8]) -> Printed
 // Prints the line for a text, and beside it a byte for each word: 1 at the count of a list that was entered with a state that is not empty.
 pub fn run_marked(text: &[u8], marks: &mut [u8], out: &mut [u8]) -> Printed
     ensures { λ r. ⌜ job.left (of-printed r) (now (marks .exit)) (now (out .exit)) ≡ job.run-marked (now (text .entry)) (now (marks .entry)) (now (out .entry)) ⌝ }
+    ensures { λ r. ⌜ (r ≡ Short → length (now (out .entry)) < 2048) ⌝ }
 {
     let mut words = [0; 8192];
     match text::read(text, &mut words) {

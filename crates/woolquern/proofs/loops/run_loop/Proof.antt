@@ -22,14 +22,16 @@ returns : tie.Need-returns
 returns c =
     let a = c .before .before .before .before .before .before .before .before .before .before .before .before .before .before .args in
     let e = read-refused (a .text .now) (replicate 8192 0) (c .before .before .before .before .before .before .before .before .read .result) (c .before .before .before .before .before .before .before .before .read .last .1 .0) (c .before .before .before .before .before .before .before .before .read .ensures .1) (c .before .before .before .before .before .number .given .1) full in
-    refused-by (a .counts .now) (a .settled .now) (a .out .now) (c .before .before .refuse .result) (ap (λ (x : Answer (List ℕ)). and-then x (λ ws. and-then (ran-loop ws (a .unroll)) (with-room (length (a .counts .now)) (length (a .settled .now))))) e) (c .before .before .refuse .ensures .0)
+    (refused-by (a .counts .now) (a .settled .now) (a .out .now) (c .before .before .refuse .result) (ap (λ (x : Answer (List ℕ)). and-then x (λ ws. and-then (ran-loop ws (a .unroll)) (with-room (length (a .counts .now)) (length (a .settled .now))))) e) (c .before .before .refuse .ensures .0), c .before .before .refuse .ensures .1)
 
 returns-2 : tie.Need-returns-2
 returns-2 c =
     let a = c .before .before .before .before .before .before .before .before .before .before .before .before .before .before .before .before .before .before .before .before .before .args in
-    let e = read-words (a .text .now) (replicate 8192 0) (c .before .before .before .before .before .before .before .before .before .before .before .before .before .before .before .read .result) (c .before .before .before .before .before .before .before .before .before .before .before .before .before .before .before .read .last .1 .0) (c .before .before .before .before .before .before .before .before .before .before .before .before .before .before .before .read .ensures .1) (c .before .before .before .before .before .before .before .before .before .before .before .before .count .given .1) in
-    c .before .before .before .before .before .before .run-words .ensures
-    ∙ ap (λ (x : Answer (List ℕ)). looping (and-then x (λ ws. and-then (ran-loop ws (a .unroll)) (with-room (length (a .counts .now)) (length (a .settled .now))))) (a .counts .now) (a .settled .now) (a .out .now)) e
+    let e = read-words (a .text .now) (replicate 8192 0) (c .before .before .before .before .before .before .before .before .before .before .before .before .before .before .before .read .result) (c .before .before .before .before .before .before .before .before .before .before .before .before .before .before .before .read .last .1 .0) (c .before .before .before .before .before .before .before .before .before .before .before .before .before .before .before .read .ensures .1) (c .before .before .before .before .before .before .before .before .before .before .before .before .count .given .1) in (
+      c .before .before .before .before .before .before .run-words .ensures .0
+          ∙ ap (λ (x : Answer (List ℕ)). looping (and-then x (λ ws. and-then (ran-loop ws (a .unroll)) (with-room (length (a .counts .now)) (length (a .settled .now))))) (a .counts .now) (a .settled .now) (a .out .now)) e,
+      c .before .before .before .before .before .before .run-words .ensures .1,
+    )
 
 pub run-loop-spec : {M : Type 1} → statement M
 run-loop-spec =

@@ -17,13 +17,13 @@ use Rattle.woolquern.proofs.loops.run_words.Tie as tie
 returns : tie.Need-returns
 returns c =
     let a = c .before .before .before .before .before .before .before .before .before .args in
-    refused-by (a .counts .now) (a .settled .now) (a .out .now) (c .before .before .refuse .result) (ap (λ (x : Answer Loop). and-then x (with-room (length (a .counts .now)) (length (a .settled .now)))) (loop-long (a .words .now) (a .unroll) (c .before .before .before .before .if1 .taken))) (c .before .before .refuse .ensures .0)
+    (refused-by (a .counts .now) (a .settled .now) (a .out .now) (c .before .before .refuse .result) (ap (λ (x : Answer Loop). and-then x (with-room (length (a .counts .now)) (length (a .settled .now)))) (loop-long (a .words .now) (a .unroll) (c .before .before .before .before .if1 .taken))) (c .before .before .refuse .ensures .0), c .before .before .refuse .ensures .1)
 
 returns-2 : tie.Need-returns-2
 returns-2 c =
     let a = c .before .before .before .before .before .before .before .before .before .before .before .before .before .args in
     let e = loop-bad (a .words .now) (a .unroll) (c .before .before .before .before .before .before .before .before .if1 .left) (sym (c .before .before .before .before .before .number .given .1) ∙ c .before .before .before .before .before .before .before .check .ensures) in
-    refused-by (a .counts .now) (a .settled .now) (a .out .now) (c .before .before .refuse2 .result) (ap (λ (x : Answer Loop). and-then x (with-room (length (a .counts .now)) (length (a .settled .now)))) e) (c .before .before .refuse2 .ensures .0)
+    (refused-by (a .counts .now) (a .settled .now) (a .out .now) (c .before .before .refuse2 .result) (ap (λ (x : Answer Loop). and-then x (with-room (length (a .counts .now)) (length (a .settled .now)))) e) (c .before .before .refuse2 .ensures .0), c .before .before .refuse2 .ensures .1)
 
 returns-3 : tie.Need-returns-3
 returns-3 c =
@@ -32,7 +32,7 @@ returns-3 c =
     let n = c .before .before .before .before .before .before .before .before .before .before .before .before .before .n .given .0 .0 in
     let found = c .before .before .before .before .before .before .before .before .before .before .analyse-loop .ensures ∙ ap (λ (cs : List Cell). outcomes.looped (answers.looped ws n cs (a .unroll))) (c .before .before .before .before .before .before .before .before .before .before .before .zeros .ensures) in
     let e = ap (λ (f : LoopAnswer). loop-of f n) found ∙ loop-sound ws (a .unroll) (c .before .before .before .before .before .before .before .before .before .before .before .before .before .before .before .before .if1 .left) (sym (c .before .before .before .before .before .before .before .before .before .before .before .before .before .n .given .1) ∙ c .before .before .before .before .before .before .before .before .before .before .before .before .before .before .before .check .ensures) in
-    c .before .before .before .before .before .before .keep .ensures ∙ ap (λ (x : Answer Loop). looping (and-then x (with-room (length (a .counts .now)) (length (a .settled .now)))) (a .counts .now) (a .settled .now) (a .out .now)) e
+    (c .before .before .before .before .before .before .keep .ensures .0 ∙ ap (λ (x : Answer Loop). looping (and-then x (with-room (length (a .counts .now)) (length (a .settled .now)))) (a .counts .now) (a .settled .now) (a .out .now)) e, c .before .before .before .before .before .before .keep .ensures .1)
 
 pub run-words-spec : {M : Type 1} → statement M
 run-words-spec =

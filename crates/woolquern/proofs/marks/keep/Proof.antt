@@ -12,18 +12,18 @@ use Rattle.woolquern.proofs.marks.keep.Tie as tie
 returns : tie.Need-returns
 returns c =
     let s = c .before .before .before .before .before .before .before .before .before .before in
-    refused-by (s .args .marks .now) (s .args .out .now) (c .before .before .refuse .result) (found-refused (s .args .found) (s .args .n) (s .args .count) (length (s .args .marks .now)) (c .before .before .before .before .before .verdict .given .1)) (c .before .before .refuse .ensures .0)
+    (refused-by (s .args .marks .now) (s .args .out .now) (c .before .before .refuse .result) (found-refused (s .args .found) (s .args .n) (s .args .count) (length (s .args .marks .now)) (c .before .before .before .before .before .verdict .given .1)) (c .before .before .refuse .ensures .0), c .before .before .refuse .ensures .1)
 
 returns-2 : tie.Need-returns-2
 returns-2 c =
     let s = c .before .before .before .before .before .before .before .before .before .before in
-    refused-by (s .args .marks .now) (s .args .out .now) (c .before .before .refuse2 .result) (found-more (s .args .found) (s .args .n) (s .args .count) (length (s .args .marks .now)) (c .before .before .before .before .before .enum-told .given .1) (c .before .before .before .before .if1 .taken)) (c .before .before .refuse2 .ensures .0)
+    (refused-by (s .args .marks .now) (s .args .out .now) (c .before .before .refuse2 .result) (found-more (s .args .found) (s .args .n) (s .args .count) (length (s .args .marks .now)) (c .before .before .before .before .before .enum-told .given .1) (c .before .before .before .before .if1 .taken)) (c .before .before .refuse2 .ensures .0), c .before .before .refuse2 .ensures .1)
 
 returns-3 : tie.Need-returns-3
 returns-3 c =
     let s = c .before .before .before .before .before .before .before .before .before .before .before .before in
     let marks = s .args .marks .now in
-    kept-by (s .args .found) (s .args .n) (s .args .count) marks marks (s .args .out .now) (c .before .before .before .before .line .result) (c .before .before .before .before .before .before .before .enum-told .given .1) (c .before .before .before .before .before .before .if1 .left) (c .before .before .before .before .line .ensures .0) (beside-short (c .before .before .before .before .line .result) (take (s .args .count) (s .args .found .marks)) marks (c .enum-told2 .given .1))
+    (kept-by (s .args .found) (s .args .n) (s .args .count) marks marks (s .args .out .now) (c .before .before .before .before .line .result) (c .before .before .before .before .before .before .before .enum-told .given .1) (c .before .before .before .before .before .before .if1 .left) (c .before .before .before .before .line .ensures .0) (beside-short (c .before .before .before .before .line .result) (take (s .args .count) (s .args .found .marks)) marks (c .enum-told2 .given .1)), c .before .before .before .before .line .ensures .1)
 
 slice-aggregate-put : tie.Need-slice-aggregate-put
 slice-aggregate-put c = sym (length-take-le _ _ (c .before .before .before .before .before .before .before .before .before .before .before .before .before .before .pre))
@@ -36,9 +36,11 @@ returns-4 c =
     let s = c .before .before .before .before .before .before .before .before .before .before .before .before .before .before .before .before .before .before in
     let marks = s .args .marks .now in
     let bytes = take (s .args .count) (s .args .found .marks) in
-    let room = c .before .before .before .before .before .before .before .before .before .before .before .before .if1 .left in
-    kept-by (s .args .found) (s .args .n) (s .args .count) marks _ (s .args .out .now) (c .before .before .before .before .before .before .before .before .before .before .line .result) (c .before .before .before .before .before .before .before .before .before .before .before .before .before .enum-told .given .1) room (c .before .before .before .before .before .before .before .before .before .before .line .ensures .0)
-    (put-front bytes (omega (arith, length-take-le (s .args .count) (s .args .found .marks) (s .pre), room)) (c .before .before .put .ensures) ∙ beside-wrote (c .before .before .before .before .before .before .before .before .before .before .line .result) bytes marks (c .before .before .before .before .before .before .enum-told3 .given .1))
+    let room = c .before .before .before .before .before .before .before .before .before .before .before .before .if1 .left in (
+      kept-by (s .args .found) (s .args .n) (s .args .count) marks _ (s .args .out .now) (c .before .before .before .before .before .before .before .before .before .before .line .result) (c .before .before .before .before .before .before .before .before .before .before .before .before .before .enum-told .given .1) room (c .before .before .before .before .before .before .before .before .before .before .line .ensures .0)
+          (put-front bytes (omega (arith, length-take-le (s .args .count) (s .args .found .marks) (s .pre), room)) (c .before .before .put .ensures) ∙ beside-wrote (c .before .before .before .before .before .before .before .before .before .before .line .result) bytes marks (c .before .before .before .before .before .before .enum-told3 .given .1)),
+      c .before .before .before .before .before .before .before .before .before .before .line .ensures .1,
+    )
 
 pub keep-spec : {M : Type 1} → statement M
 keep-spec =

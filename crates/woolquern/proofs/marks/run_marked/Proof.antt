@@ -22,14 +22,16 @@ returns : tie.Need-returns
 returns c =
     let s = c .before .before .before .before .before .before .before .before .before .before .before .before .before in
     let e = read-refused (s .args .text .now) (replicate 8192 0) (c .before .before .before .before .before .before .before .before .read .result) (c .before .before .before .before .before .before .before .before .read .last .1 .0) (c .before .before .before .before .before .before .before .before .read .ensures .1) (c .before .before .before .before .before .number .given .1) full in
-    refused-by (s .args .marks .now) (s .args .out .now) (c .before .before .refuse .result) (ap (λ (a : Answer (List ℕ)). and-then a (λ ws. entered-by ws (length (s .args .marks .now)))) e) (c .before .before .refuse .ensures .0)
+    (refused-by (s .args .marks .now) (s .args .out .now) (c .before .before .refuse .result) (ap (λ (a : Answer (List ℕ)). and-then a (λ ws. entered-by ws (length (s .args .marks .now)))) e) (c .before .before .refuse .ensures .0), c .before .before .refuse .ensures .1)
 
 returns-2 : tie.Need-returns-2
 returns-2 c =
     let s = c .before .before .before .before .before .before .before .before .before .before .before .before .before .before .before .before .before in
-    let e = read-words (s .args .text .now) (replicate 8192 0) (c .before .before .before .before .before .before .before .before .before .before .before .before .read .result) (c .before .before .before .before .before .before .before .before .before .before .before .before .read .last .1 .0) (c .before .before .before .before .before .before .before .before .before .before .before .before .read .ensures .1) (c .before .before .before .before .before .before .before .before .before .count .given .1) in
-    c .before .before .before .before .run-words .ensures
-    ∙ ap (λ (a : Answer (List ℕ)). marking (and-then a (λ ws. entered-by ws (length (s .args .marks .now)))) (s .args .marks .now) (s .args .out .now)) e
+    let e = read-words (s .args .text .now) (replicate 8192 0) (c .before .before .before .before .before .before .before .before .before .before .before .before .read .result) (c .before .before .before .before .before .before .before .before .before .before .before .before .read .last .1 .0) (c .before .before .before .before .before .before .before .before .before .before .before .before .read .ensures .1) (c .before .before .before .before .before .before .before .before .before .count .given .1) in (
+      c .before .before .before .before .run-words .ensures .0
+          ∙ ap (λ (a : Answer (List ℕ)). marking (and-then a (λ ws. entered-by ws (length (s .args .marks .now)))) (s .args .marks .now) (s .args .out .now)) e,
+      c .before .before .before .before .run-words .ensures .1,
+    )
 
 pub run-marked-spec : {M : Type 1} → statement M
 run-marked-spec =
