@@ -2,7 +2,8 @@
 
 use crate::answers::{cannot_normalize, Genfer, ADDS, MULTIPLIES};
 use crate::model::{self, Accepted, Answer, Limits, Outcome, Refusal, Start};
-use crate::{genfer_side, library, watch};
+use crate::{entries, genfer_side, library, watch};
+use std::cell::Cell;
 
 /// Which limits hold, and how many steps the model may spend on a program.
 pub struct Judge {
@@ -10,6 +11,18 @@ pub struct Judge {
     pub steps: u64,
     /// Woolquern has document 01's limits and takes no part where they are lifted.
     pub with_library: bool,
+    /// How many marks and loops were compared with Woolquern's, and no refusals.
+    pub marks: Cell<u64>,
+    pub loops: Cell<u64>,
+}
+
+/// How much Woolquern is asked about a text beside its line.
+#[derive(Clone, Copy, PartialEq, Eq)]
+pub enum Asked {
+    /// Marks and the loop's own entry, with many unrolls, and with buffers that are too short.
+    All,
+    /// The marks of a program, and the loop's own entry where it is one loop.
+    Some,
 }
 
 pub enum Verdict {
@@ -28,6 +41,8 @@ impl Judge {
             limits: Limits::of_document(),
             steps,
             with_library: library::PRESENT,
+            marks: Cell::new(0),
+            loops: Cell::new(0),
         }
     }
 
@@ -36,20 +51,22 @@ impl Judge {
             limits: Limits::lifted(),
             steps,
             with_library: false,
+            marks: Cell::new(0),
+            loops: Cell::new(0),
         }
     }
 
-    pub fn judge(&self, text: &[u8]) -> Verdict {
-        watch::over(text, || self.verdict(text))
+    pub fn judge(&self, text: &[u8], asked: Asked) -> Verdict {
+        watch::over(text, || self.verdict(text, asked))
     }
 
-    fn verdict(&self, text: &[u8]) -> Verdict {
+    fn verdict(&self, text: &[u8], asked: Asked) -> Verdict {
         let answer = model::of_text(text, &self.limits, self.steps);
         if answer.outcome == Outcome::TooLong {
             return Verdict::TooLong;
         }
         let judged = self
-            .library_agrees(text, &answer)
+            .library_agrees(text, &answer, asked)
             .and_then(|()| genfer_agrees(&answer));
         let alone = !self.with_library && asks_genfer(&answer).is_none();
         match judged {
@@ -78,12 +95,39 @@ impl Judge {
         }
     }
 
-    fn library_agrees(&self, text: &[u8], answer: &Answer) -> Result<(), String> {
+    fn library_agrees(&self, text: &[u8], answer: &Answer, asked: Asked) -> Result<(), String> {
         if !self.with_library {
             return Ok(());
         }
         let line = library::line(text).map_err(|wrong| format!("Woolquern {}", wrong))?;
-        same("Woolquern's line", line, answer.outcome.to_string())
+        same("Woolquern's line", line, answer.outcome.to_string())?;
+        if asked == Asked::Some && answer.accepted.is_none() {
+            return Ok(());
+        }
+        entries::marks_agree(text, answer, asked)?;
+        count(&self.marks, answer);
+        self.loops_agree(text, answer, asked)
+    }
+
+    /// The loop's own entry, with default unrolls up to one over the limit.
+    fn loops_agree(&self, text: &[u8], answer: &Answer, asked: Asked) -> Result<(), String> {
+        let accepted = answer.accepted.as_ref();
+        let one_loop = accepted.map_or(false, |accepted| accepted.words.starts_with(&[1, 5]));
+        let unrolls: &[u64] = match (one_loop, asked) {
+            (true, Asked::All) => &[0, 1, 7, 10_000, 10_001],
+            (true, Asked::Some) => &[0, 7],
+            (false, Asked::All) => &[0, 10_001],
+            (false, Asked::Some) => &[],
+        };
+        for unroll in unrolls {
+            let answer = model::of_loop(text, *unroll, &self.limits, self.steps);
+            if answer.outcome != Outcome::TooLong {
+                entries::loop_agrees(text, *unroll, &answer, asked)?;
+                genfer_loop_agrees(&answer, *unroll)?;
+                count(&self.loops, &answer);
+            }
+        }
+        Ok(())
     }
 
     fn all_answers(&self, text: &[u8], answer: &Answer, difference: &str) -> String {
@@ -117,7 +161,29 @@ fn genfer_agrees(answer: &Answer) -> Result<(), String> {
     let trail = genfer_side::trail(&accepted.words);
     trail_agrees(&trail, &accepted.trail)?;
     place_agrees(&answer.outcome, accepted, &trail)?;
-    last_loop_agrees(accepted)
+    last_loop_agrees(accepted, 0)
+}
+
+/// Genfer on a program of one loop, with that default unroll.
+fn genfer_loop_agrees(answer: &Answer, unroll: u64) -> Result<(), String> {
+    let accepted = match asks_genfer(answer) {
+        None => return Ok(()),
+        Some(accepted) => accepted,
+    };
+    let start = Start {
+        unroll,
+        ..Start::zero(accepted.program.used)
+    };
+    let said = genfer_side::answer_from(&accepted.words, &start);
+    let what = format!("genfer's answer with unroll {}", unroll);
+    same(&what, said, expected(answer, accepted))?;
+    last_loop_agrees(accepted, unroll)
+}
+
+fn count(compared: &Cell<u64>, answer: &Answer) {
+    if let Outcome::State(_) = answer.outcome {
+        compared.set(compared.get() + 1);
+    }
 }
 
 /// Genfer overflows in the statement that it came to last.
@@ -158,9 +224,9 @@ fn trail_agrees(genfer: &[u64], model: &[u64]) -> Result<(), String> {
     same(&what, next(genfer), next(model))
 }
 
-fn last_loop_agrees(accepted: &Accepted) -> Result<(), String> {
+fn last_loop_agrees(accepted: &Accepted, unroll: u64) -> Result<(), String> {
     let (genfer, model) = match (
-        genfer_side::last_loop(&accepted.words),
+        genfer_side::last_loop(&accepted.words, unroll),
         accepted.loops.last(),
     ) {
         (Some(genfer), Some(model)) => (genfer, model),

@@ -1,6 +1,6 @@
 //! All that is said of one program.
 
-use crate::compare::{Judge, Verdict};
+use crate::compare::{Asked, Judge, Verdict};
 use crate::model::{self, Accepted, Limits};
 use crate::{genfer_side, library};
 
@@ -16,7 +16,7 @@ pub fn print(text: &str) -> u64 {
     if let Some(accepted) = &answer.accepted {
         print_program(accepted);
     }
-    match Judge::of_document(STEPS).judge(text.as_bytes()) {
+    match Judge::of_document(STEPS).judge(text.as_bytes(), Asked::All) {
         Verdict::Differ(report) => {
             println!("{}", report);
             1

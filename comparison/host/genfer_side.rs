@@ -44,8 +44,8 @@ fn message(panic: &(dyn Any + Send)) -> String {
     message.unwrap_or(&"a panic without a message").to_string()
 }
 
-fn transformer() -> SupportTransformer {
-    SupportTransformer::default().with_unroll(0)
+fn transformer(unroll: u64) -> SupportTransformer {
+    SupportTransformer::default().with_unroll(unroll as usize)
 }
 
 /// A program in genfer's own form, ready to be run again and again.
@@ -58,7 +58,7 @@ pub fn ready(words: &[u64]) -> Ready {
 impl Ready {
     /// Genfer's analysis and its own printing.
     pub fn line(&self) -> String {
-        transformer().semantics(&self.0).to_string()
+        transformer(0).semantics(&self.0).to_string()
     }
 }
 
@@ -67,7 +67,7 @@ pub fn answer(words: &[u64]) -> Genfer {
 }
 
 fn run(program: &Program) -> Genfer {
-    said(|| transformer().semantics(program).to_string())
+    said(|| transformer(0).semantics(program).to_string())
 }
 
 fn said(work: impl FnOnce() -> String) -> Genfer {
@@ -82,9 +82,8 @@ pub fn answer_from(words: &[u64], start: &Start) -> Genfer {
     let program = translate::program(words);
     let ranges: Vec<SupportSet> = start.ranges.iter().map(support_set).collect();
     let state = VarSupport::from(ranges);
-    let mut transformer = SupportTransformer::default().with_unroll(start.unroll as usize);
     said(|| {
-        transformer
+        transformer(start.unroll)
             .transform_statements(&program.stmts, state)
             .to_string()
     })
@@ -108,8 +107,10 @@ pub fn trail(words: &[u64]) -> Vec<u64> {
     take_trail()
 }
 
-/// How the loop that ends the top list is analysed, if there is one and genfer does not panic.
-pub fn last_loop(words: &[u64]) -> Option<LoopEnd> {
+/// How the loop that ends the top list is analysed with that default unroll, if there is one and
+/// genfer does not panic.
+pub fn last_loop(words: &[u64], default_unroll: u64) -> Option<LoopEnd> {
+    let transformer = || transformer(default_unroll);
     let mut program = translate::program(words);
     let start = transformer().init(&program);
     match program.stmts.pop()? {
@@ -117,8 +118,9 @@ pub fn last_loop(words: &[u64]) -> Option<LoopEnd> {
             let before = transformer().transform_statements(&program.stmts, start);
             let found = transformer().find_unroll_fixpoint(&cond, &body, before.clone());
             let index = found.map(|(index, _, _)| index);
+            let asked = unroll.unwrap_or(default_unroll as usize);
             let mut state = before;
-            for _ in 0..unroll.unwrap_or(0).max(index.unwrap_or(0)) {
+            for _ in 0..asked.max(index.unwrap_or(0)) {
                 let (enter, _) = transformer().transform_event(&cond, state);
                 state = transformer().transform_statements(&body, enter);
             }

@@ -2,26 +2,62 @@
 
 #[cfg(library)]
 mod linked {
-    extern "C" {
-        /// Writes the printed line with its line feed to `out` and answers how many bytes it wrote,
-        /// 0 where `out` is too short for them.
-        fn woolquern_run(
-            text: *const u8,
-            text_length: usize,
-            out: *mut u8,
-            out_length: usize,
-        ) -> usize;
-    }
+    include!("../../include/woolquern.rs");
 
     pub fn run(text: &[u8], out: &mut [u8]) -> usize {
         unsafe { woolquern_run(text.as_ptr(), text.len(), out.as_mut_ptr(), out.len()) }
+    }
+
+    pub fn marks(text: &[u8], marks: &mut [u8], out: &mut [u8]) -> usize {
+        unsafe {
+            woolquern_marks(
+                text.as_ptr(),
+                text.len(),
+                marks.as_mut_ptr(),
+                marks.len(),
+                out.as_mut_ptr(),
+                out.len(),
+            )
+        }
+    }
+
+    pub fn looped(
+        text: &[u8],
+        unroll: usize,
+        counts: &mut [u64],
+        settled: &mut [u8],
+        out: &mut [u8],
+    ) -> usize {
+        unsafe {
+            woolquern_loop(
+                text.as_ptr(),
+                text.len(),
+                unroll,
+                counts.as_mut_ptr(),
+                counts.len(),
+                settled.as_mut_ptr(),
+                settled.len(),
+                out.as_mut_ptr(),
+                out.len(),
+            )
+        }
     }
 }
 
 #[cfg(not(library))]
 mod linked {
+    const ABSENT: &str = "this host was built without Woolquern's library";
+
     pub fn run(_: &[u8], _: &mut [u8]) -> usize {
-        unreachable!("this host was built without Woolquern's library")
+        unreachable!("{}", ABSENT)
+    }
+
+    pub fn marks(_: &[u8], _: &mut [u8], _: &mut [u8]) -> usize {
+        unreachable!("{}", ABSENT)
+    }
+
+    pub fn looped(_: &[u8], _: usize, _: &mut [u64], _: &mut [u8], _: &mut [u8]) -> usize {
+        unreachable!("{}", ABSENT)
     }
 }
 
@@ -33,7 +69,7 @@ pub const OUT_LENGTH: usize = 4_096;
 /// What the lent buffer holds before a call.
 const UNTOUCHED: u8 = 0xA5;
 
-pub use linked::run;
+pub use linked::{looped, marks, run};
 
 /// The printed line without its line feed, or what is wrong with the call.
 pub fn line(text: &[u8]) -> Result<String, String> {

@@ -13,6 +13,7 @@ mod compare;
 mod coverage;
 mod damage;
 mod differences;
+mod entries;
 mod exhaustive;
 mod explain;
 #[cfg_attr(not(genfer), path = "no_genfer.rs")]

@@ -112,6 +112,16 @@ impl Accepted {
         lists.retain(|place| !entered.contains(&(*place as u64)));
         lists
     }
+
+    /// A byte for each word: 1 at the count of a list that a pass entered.
+    pub fn marks(&self) -> Vec<u8> {
+        let dead = self.dead_lists();
+        let mut marks = vec![0; self.words.len()];
+        for place in self.program.entered_lists() {
+            marks[place] = u8::from(dead.binary_search(&place).is_err());
+        }
+        marks
+    }
 }
 
 impl Answer {
@@ -168,6 +178,32 @@ fn of_words(words: Vec<u64>, limits: &Limits, steps: u64) -> Answer {
         Err(refusal) => Answer::refused(refusal),
         Ok(program) => from_start(words, &Start::zero(program.used), limits, steps),
     }
+}
+
+/// The loop's own entry: the model's answer to a text whose one statement is a loop, with that
+/// default unroll.
+pub fn of_loop(text: &[u8], unroll: u64, limits: &Limits, steps: u64) -> Answer {
+    match words_of_loop(text, unroll, limits) {
+        Err(refusal) => Answer::refused(refusal),
+        Ok((words, start)) => from_start(words, &start, limits, steps),
+    }
+}
+
+/// Refusals in their order: the text, its words, the default unroll, a program that is not one loop.
+fn words_of_loop(text: &[u8], unroll: u64, limits: &Limits) -> Result<(Vec<u64>, Start), Refusal> {
+    let words = text::words(text, limits)?;
+    let program = reader::program(&words, limits.variables, limits)?;
+    let start = Start {
+        unroll,
+        ..Start::zero(program.used)
+    };
+    start.state(&words, limits)?;
+    for (place, word) in [1, 5].into_iter().enumerate() {
+        if words[place] != word {
+            return Err(Refusal::new(3, place));
+        }
+    }
+    Ok((words, start))
 }
 
 /// The analysis of words from the caller's ranges.

@@ -33,7 +33,7 @@ pub fn trail(_: &[u64]) -> Vec<u64> {
     unreachable!("{}", ABSENT)
 }
 
-pub fn last_loop(_: &[u64]) -> Option<LoopEnd> {
+pub fn last_loop(_: &[u64], _: u64) -> Option<LoopEnd> {
     unreachable!("{}", ABSENT)
 }
 

@@ -1,7 +1,8 @@
 //! Random programs, as words. Most are within document 01's limits; some are just beyond one.
 
 use crate::model::ranges::{Range, TOP};
-use crate::model::Start;
+use crate::model::tree::Kind;
+use crate::model::{reader, Limits, Start};
 use crate::random::Random;
 
 /// How far a program may go.
@@ -93,6 +94,17 @@ pub fn long_program(random: &mut Random, words: usize) -> Vec<u64> {
         long.extend_from_slice(&program[1..]);
     }
     long
+}
+
+/// The program of the first loop of the top list alone.
+pub fn first_loop(words: &[u64]) -> Option<Vec<u64>> {
+    let limits = Limits::of_document();
+    let program = reader::program(words, limits.variables, &limits).ok()?;
+    let mut statements = program.statements.iter();
+    let looped = statements.find(|statement| matches!(statement.kind, Kind::While(_)))?;
+    let mut alone = vec![1];
+    alone.extend_from_slice(&words[looped.place..looped.end]);
+    Some(alone)
 }
 
 /// Ranges to start from, and an unroll for loops that have none.

@@ -3,7 +3,7 @@
 use crate::answers::Genfer;
 use crate::arguments::Arguments;
 use crate::cases::CASES;
-use crate::compare::{Judge, Verdict};
+use crate::compare::{Asked, Judge, Verdict};
 use crate::coverage::Coverage;
 use crate::damage::{self, text_of};
 use crate::differences;
@@ -156,7 +156,7 @@ fn is_program(words: &[u64]) -> bool {
 }
 
 fn judge(text: &[u8], steps: u64) -> Verdict {
-    Judge::of_document(steps).judge(text)
+    Judge::of_document(steps).judge(text, Asked::Some)
 }
 
 /// Genfer's own printing where it returns, else the model's line.

@@ -3,22 +3,29 @@
 use crate::arguments::Arguments;
 use crate::benchmark;
 use crate::cases::{self, CASES, PASSES};
-use crate::compare::{Judge, Verdict};
+use crate::compare::{Asked, Judge, Verdict};
 use crate::coverage::Coverage;
 use crate::damage::{self, text_of};
 use crate::differences::{self, Difference};
 use crate::exhaustive::{all_lists, all_programs, FEWEST_WORDS, FEW_WORDS, MANY_WORDS};
 use crate::model;
-use crate::programs::{long_program, program, start, Reach};
+use crate::programs::{first_loop, long_program, program, start, Reach};
 use crate::random::Random;
 use crate::shrink;
 use crate::{genfer_side, library};
+
+/// Of all texts one in so many is put to every function of Woolquern, with every buffer too short.
+const ASKED_ALL: u64 = 23;
+
+/// Of the random programs one in so many has its first loop compared by itself too.
+const LOOPS_ALONE: u64 = 4;
 
 /// After so many failures the smallest program is no longer looked for.
 const MOST_SHRUNK: u64 = 3;
 
 struct Run {
     judge: Judge,
+    texts: u64,
     passed: u64,
     failed: u64,
     /// Programs that nobody but the model was asked about.
@@ -42,6 +49,10 @@ pub fn compare(arguments: &Arguments) -> u64 {
         run.from_starts(arguments);
         run.without_limits(arguments);
     }
+    if library::PRESENT {
+        let (marks, loops) = (run.judge.marks.get(), run.judge.loops.get());
+        println!("of Woolquern's other functions: {} marks, {} loops", marks, loops);
+    }
     println!(
         "not counted: {} that only the model answers here, {} that take too long",
         run.alone, run.too_long
@@ -63,6 +74,7 @@ impl Run {
     fn new(judge: Judge) -> Run {
         Run {
             judge,
+            texts: 0,
             passed: 0,
             failed: 0,
             alone: 0,
@@ -75,7 +87,7 @@ impl Run {
         for (text, line) in CASES {
             let model = model::of_text(text.as_bytes(), &self.judge.limits, cases::STEPS);
             self.expect(text, line, &model.outcome.to_string());
-            self.check(text.as_bytes());
+            self.check_asked(text.as_bytes(), Asked::All);
         }
         for (text, passes) in PASSES {
             let model = model::of_text(text.as_bytes(), &self.judge.limits, cases::STEPS);
@@ -85,7 +97,7 @@ impl Run {
             self.expect(text, &format!("{:?}", Some(passes)), &format!("{:?}", said));
         }
         for difference in differences::of_texts() {
-            self.check(difference.text.as_bytes());
+            self.check_asked(difference.text.as_bytes(), Asked::All);
             self.expect_answers(&difference);
         }
         for difference in differences::of_callers() {
@@ -115,6 +127,11 @@ impl Run {
                 let spaced = damage::spaced_text(&mut random, &words);
                 self.check(&damage::text(&mut random, &spaced));
                 self.check(&spaced);
+            }
+            if index % LOOPS_ALONE == 0 {
+                if let Some(looped) = first_loop(&words) {
+                    self.check_words(&looped);
+                }
             }
         }
         println!("with random programs: {}", self.passed);
@@ -200,7 +217,16 @@ impl Run {
     }
 
     fn check(&mut self, text: &[u8]) {
-        match self.judge.judge(text) {
+        self.texts += 1;
+        if self.texts % ASKED_ALL == 0 {
+            self.check_asked(text, Asked::All);
+        } else {
+            self.check_asked(text, Asked::Some);
+        }
+    }
+
+    fn check_asked(&mut self, text: &[u8], asked: Asked) {
+        match self.judge.judge(text, asked) {
             Verdict::Agree(answer) => {
                 self.passed += 1;
                 self.coverage.add(&answer);
@@ -218,9 +244,10 @@ impl Run {
         if self.failed > MOST_SHRUNK {
             return;
         }
-        let differs = |text: &[u8]| matches!(self.judge.judge(text), Verdict::Differ(_));
+        let judge = |text: &[u8]| self.judge.judge(text, Asked::All);
+        let differs = |text: &[u8]| matches!(judge(text), Verdict::Differ(_));
         let smallest = shrink::smallest(text, &differs);
-        if let Verdict::Differ(report) = self.judge.judge(&smallest) {
+        if let Verdict::Differ(report) = judge(&smallest) {
             println!("failed: {}", String::from_utf8_lossy(&smallest));
             println!("{}", report);
         }

@@ -24,6 +24,12 @@ pub struct Passes {
     pub widening: u64,
 }
 
+impl Passes {
+    pub fn counts(&self) -> [u64; 4] {
+        [self.search, self.unrolled, self.joining, self.widening]
+    }
+}
+
 #[derive(Clone, Debug, PartialEq, Eq)]
 pub struct LoopAnswer {
     pub passes: Passes,
