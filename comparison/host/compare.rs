@@ -20,9 +20,9 @@ pub struct Judge {
 #[derive(Clone, Copy, PartialEq, Eq)]
 pub enum Asked {
     /// Marks and the loop's own entry, with many unrolls, and with buffers that are too short.
-    All,
+    Thoroughly,
     /// The marks of a program, and the loop's own entry where it is one loop.
-    Some,
+    Briefly,
 }
 
 pub enum Verdict {
@@ -101,7 +101,7 @@ impl Judge {
         }
         let line = library::line(text).map_err(|wrong| format!("Woolquern {}", wrong))?;
         same("Woolquern's line", line, answer.outcome.to_string())?;
-        if asked == Asked::Some && answer.accepted.is_none() {
+        if asked == Asked::Briefly && answer.accepted.is_none() {
             return Ok(());
         }
         entries::marks_agree(text, answer, asked)?;
@@ -114,10 +114,10 @@ impl Judge {
         let accepted = answer.accepted.as_ref();
         let one_loop = accepted.map_or(false, |accepted| accepted.words.starts_with(&[1, 5]));
         let unrolls: &[u64] = match (one_loop, asked) {
-            (true, Asked::All) => &[0, 1, 7, 10_000, 10_001],
-            (true, Asked::Some) => &[0, 7],
-            (false, Asked::All) => &[0, 10_001],
-            (false, Asked::Some) => &[],
+            (true, Asked::Thoroughly) => &[0, 1, 7, 10_000, 10_001],
+            (true, Asked::Briefly) => &[0, 7],
+            (false, Asked::Thoroughly) => &[0, 10_001],
+            (false, Asked::Briefly) => &[],
         };
         for unroll in unrolls {
             let answer = model::of_loop(text, *unroll, &self.limits, self.steps);

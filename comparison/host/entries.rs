@@ -6,7 +6,7 @@ use crate::library;
 use crate::model::{Answer, Outcome};
 use std::fmt::Debug;
 
-/// What stands where a buffer other than that of the line is too short.
+/// The line where another buffer is too short.
 const NO_ROOM: &str = "refused 2 at 0\n";
 
 /// A buffer that is lent to a call, with a few items behind it.
@@ -71,7 +71,7 @@ fn expect_line(function: &str, written: usize, out: &Lent<u8>, line: &str) -> Re
     expect(&format!("{} answers", function), &written, &line.len())
 }
 
-/// The marks that a text is to leave, none where it is refused.
+/// The marks of a text, whose answer by the model is this: none where it is refused.
 pub fn marks_agree(text: &[u8], answer: &Answer, asked: Asked) -> Result<(), String> {
     let line = format!("{}\n", answer.outcome);
     let marks = match (&answer.outcome, &answer.accepted) {
@@ -81,7 +81,7 @@ pub fn marks_agree(text: &[u8], answer: &Answer, asked: Asked) -> Result<(), Str
     let more = room_to_spare(text);
     let (enough, room) = (marks.len() + more, line.len() + more);
     expect_marks(text, enough, room, &line, &marks)?;
-    if asked == Asked::Some {
+    if asked == Asked::Briefly {
         return Ok(());
     }
     if let Some(short) = marks.len().checked_sub(1) {
@@ -110,69 +110,72 @@ fn expect_marks(
 }
 
 /// What one call of the loop's entry is to leave.
-struct Looped<'a> {
-    line: &'a str,
-    counts: &'a [u64],
-    settled: &'a str,
+#[derive(Default)]
+struct Looped {
+    line: String,
+    counts: Vec<u64>,
+    settled: String,
 }
 
-/// What a call leaves where it refuses so.
-fn refused(line: &str) -> Looped<'_> {
-    Looped {
-        line,
-        counts: &[],
-        settled: "",
+/// The model's counts and settled state, none where it refuses.
+fn looped(answer: &Answer) -> Looped {
+    let line = format!("{}\n", answer.outcome);
+    let last = answer.accepted.as_ref().and_then(|it| it.loops.last());
+    match (&answer.outcome, last) {
+        (Outcome::State(_), Some(last)) => Looped {
+            line,
+            counts: last.passes.counts().to_vec(),
+            settled: format!("{}\n", last.settled),
+        },
+        _ => Looped::refused(&line),
     }
 }
 
-/// The counts and the settled state that a text is to leave, none where it is refused.
+impl Looped {
+    fn refused(line: &str) -> Looped {
+        Looped {
+            line: line.to_string(),
+            ..Looped::default()
+        }
+    }
+
+    /// With room for so many counts, and for so many bytes of the settled state and of the line.
+    fn expect(&self, text: &[u8], unroll: u64, rooms: [usize; 3]) -> Result<(), String> {
+        let [many, long, out_room] = rooms;
+        let (mut counts, mut settled, mut out) = (numbers(many), bytes(long), bytes(out_room));
+        let written = library::looped(
+            text,
+            unroll as usize,
+            counts.slice(),
+            settled.slice(),
+            out.slice(),
+        );
+        let function = format!("woolquern_loop with unroll {}", unroll);
+        expect_line(&function, written, &out, &self.line)?;
+        let what = format!("{} leaves in {} counts", function, many);
+        counts.expect(&what, &self.counts)?;
+        let what = format!(
+            "{} leaves in {} bytes for the settled state",
+            function, long
+        );
+        settled.expect_text(&what, &self.settled)
+    }
+}
+
+/// The loop's own entry, whose answer by the model is this.
 pub fn loop_agrees(text: &[u8], unroll: u64, answer: &Answer, asked: Asked) -> Result<(), String> {
-    let line = format!("{}\n", answer.outcome);
-    let looped = answer.accepted.as_ref().and_then(|it| it.loops.last());
-    let (counts, settled) = match (&answer.outcome, looped) {
-        (Outcome::State(_), Some(looped)) => (
-            looped.passes.counts().to_vec(),
-            format!("{}\n", looped.settled),
-        ),
-        _ => (Vec::new(), String::new()),
-    };
-    let (line, settled) = (&*line, &*settled);
+    let left = looped(answer);
     let more = room_to_spare(text);
-    let enough = [counts.len() + more, settled.len() + more, line.len() + more];
-    let counts = &counts;
-    expect_loop(text, unroll, enough, &Looped { line, counts, settled })?;
-    if asked == Asked::Some {
+    let (many, long) = (left.counts.len() + more, left.settled.len() + more);
+    left.expect(text, unroll, [many, long, left.line.len() + more])?;
+    if asked == Asked::Briefly {
         return Ok(());
     }
-    let [many, long, _] = enough;
-    if !counts.is_empty() {
-        let no_room = refused(NO_ROOM);
-        expect_loop(text, unroll, [3, long, NO_ROOM.len()], &no_room)?;
-        expect_loop(text, unroll, [many, settled.len() - 1, NO_ROOM.len()], &no_room)?;
+    if let Some(short) = left.settled.len().checked_sub(1) {
+        let refused = Looped::refused(NO_ROOM);
+        refused.expect(text, unroll, [3, long, NO_ROOM.len()])?;
+        refused.expect(text, unroll, [many, short, NO_ROOM.len()])?;
     }
-    expect_loop(text, unroll, [many, long, line.len() - 1], &refused(""))
-}
-
-/// With room for so many counts, and for so many bytes of the settled state and of the line.
-fn expect_loop(
-    text: &[u8],
-    unroll: u64,
-    rooms: [usize; 3],
-    expected: &Looped,
-) -> Result<(), String> {
-    let mut counts = numbers(rooms[0]);
-    let (mut settled, mut out) = (bytes(rooms[1]), bytes(rooms[2]));
-    let written = library::looped(
-        text,
-        unroll as usize,
-        counts.slice(),
-        settled.slice(),
-        out.slice(),
-    );
-    let function = format!("woolquern_loop with unroll {}", unroll);
-    expect_line(&function, written, &out, expected.line)?;
-    let what = format!("{} leaves in {} counts", function, rooms[0]);
-    counts.expect(&what, expected.counts)?;
-    let what = format!("{} leaves in {} bytes of settled", function, rooms[1]);
-    settled.expect_text(&what, expected.settled)
+    let nothing = Looped::default();
+    nothing.expect(text, unroll, [many, long, left.line.len() - 1])
 }

@@ -16,7 +16,7 @@ pub fn print(text: &str) -> u64 {
     if let Some(accepted) = &answer.accepted {
         print_program(accepted);
     }
-    match Judge::of_document(STEPS).judge(text.as_bytes(), Asked::All) {
+    match Judge::of_document(STEPS).judge(text.as_bytes(), Asked::Thoroughly) {
         Verdict::Differ(report) => {
             println!("{}", report);
             1

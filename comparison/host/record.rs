@@ -156,7 +156,7 @@ fn is_program(words: &[u64]) -> bool {
 }
 
 fn judge(text: &[u8], steps: u64) -> Verdict {
-    Judge::of_document(steps).judge(text, Asked::Some)
+    Judge::of_document(steps).judge(text, Asked::Briefly)
 }
 
 /// Genfer's own printing where it returns, else the model's line.

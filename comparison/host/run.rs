@@ -14,11 +14,12 @@ use crate::random::Random;
 use crate::shrink;
 use crate::{genfer_side, library};
 
-/// Of all texts one in so many is put to every function of Woolquern, with every buffer too short.
-const ASKED_ALL: u64 = 23;
+/// Of all texts one in so many is put to Woolquern's other functions whatever it is, with buffers that
+/// are too short too.
+const ASKED_ALL: u64 = 31;
 
 /// Of the random programs one in so many has its first loop compared by itself too.
-const LOOPS_ALONE: u64 = 4;
+const LOOPS_ALONE: u64 = 8;
 
 /// After so many failures the smallest program is no longer looked for.
 const MOST_SHRUNK: u64 = 3;
@@ -51,7 +52,10 @@ pub fn compare(arguments: &Arguments) -> u64 {
     }
     if library::PRESENT {
         let (marks, loops) = (run.judge.marks.get(), run.judge.loops.get());
-        println!("of Woolquern's other functions: {} marks, {} loops", marks, loops);
+        println!(
+            "of Woolquern's other functions: {} marks, {} loops",
+            marks, loops
+        );
     }
     println!(
         "not counted: {} that only the model answers here, {} that take too long",
@@ -87,7 +91,7 @@ impl Run {
         for (text, line) in CASES {
             let model = model::of_text(text.as_bytes(), &self.judge.limits, cases::STEPS);
             self.expect(text, line, &model.outcome.to_string());
-            self.check_asked(text.as_bytes(), Asked::All);
+            self.check_asked(text.as_bytes(), Asked::Thoroughly);
         }
         for (text, passes) in PASSES {
             let model = model::of_text(text.as_bytes(), &self.judge.limits, cases::STEPS);
@@ -97,7 +101,7 @@ impl Run {
             self.expect(text, &format!("{:?}", Some(passes)), &format!("{:?}", said));
         }
         for difference in differences::of_texts() {
-            self.check_asked(difference.text.as_bytes(), Asked::All);
+            self.check_asked(difference.text.as_bytes(), Asked::Thoroughly);
             self.expect_answers(&difference);
         }
         for difference in differences::of_callers() {
@@ -219,9 +223,9 @@ impl Run {
     fn check(&mut self, text: &[u8]) {
         self.texts += 1;
         if self.texts % ASKED_ALL == 0 {
-            self.check_asked(text, Asked::All);
+            self.check_asked(text, Asked::Thoroughly);
         } else {
-            self.check_asked(text, Asked::Some);
+            self.check_asked(text, Asked::Briefly);
         }
     }
 
@@ -244,7 +248,7 @@ impl Run {
         if self.failed > MOST_SHRUNK {
             return;
         }
-        let judge = |text: &[u8]| self.judge.judge(text, Asked::All);
+        let judge = |text: &[u8]| self.judge.judge(text, Asked::Thoroughly);
         let differs = |text: &[u8]| matches!(judge(text), Verdict::Differ(_));
         let smallest = shrink::smallest(text, &differs);
         if let Verdict::Differ(report) = judge(&smallest) {
