@@ -103,8 +103,9 @@ pub const CASES: [(&str, &str); 72] = [
     ("[2,1,0,0,5,4294967295,7,1,0,0]", "refused 10 at 8"),
 ];
 
-/// A text and the passes of its last loop: document 01's 'Proved table', rows 12 and 13.
-pub const PASSES: [(&str, Passes); 2] = [
+/// A text and the passes of its last loop: document 01's 'Proved table', rows 12 and 13, and a loop
+/// alone that widens as that of row 13 does.
+pub const PASSES: [(&str, Passes); 3] = [
     (
         "[1,5,0,0,1,0,1,0,1,2,0,1,0,0,0,1]",
         Passes {
@@ -116,6 +117,15 @@ pub const PASSES: [(&str, Passes); 2] = [
     ),
     (
         "[2,2,0,0,0,0,0,1,5,0,0,1,0,1,1,2,1,0,0,2,2,1,1,0,0,0,1]",
+        Passes {
+            search: 100,
+            unrolled: 0,
+            joining: 100,
+            widening: 2,
+        },
+    ),
+    (
+        "[1,5,0,0,1,0,1,0,1,2,1,1,0,0,0,1]",
         Passes {
             search: 100,
             unrolled: 0,

@@ -11,9 +11,10 @@ pub struct Judge {
     pub steps: u64,
     /// Woolquern has document 01's limits and takes no part where they are lifted.
     pub with_library: bool,
-    /// How many marks and loops were compared with Woolquern's, and no refusals.
+    /// How often Woolquern's marks were compared, refusals left out, and how often a loop's own entry.
     pub marks: Cell<u64>,
     pub loops: Cell<u64>,
+    pub widened: Cell<u64>,
 }
 
 /// How much Woolquern is asked about a text beside its line.
@@ -43,6 +44,7 @@ impl Judge {
             with_library: library::PRESENT,
             marks: Cell::new(0),
             loops: Cell::new(0),
+            widened: Cell::new(0),
         }
     }
 
@@ -53,6 +55,7 @@ impl Judge {
             with_library: false,
             marks: Cell::new(0),
             loops: Cell::new(0),
+            widened: Cell::new(0),
         }
     }
 
@@ -105,7 +108,9 @@ impl Judge {
             return Ok(());
         }
         entries::marks_agree(text, answer, asked)?;
-        count(&self.marks, answer);
+        if let Outcome::State(_) = answer.outcome {
+            add(&self.marks, true);
+        }
         self.loops_agree(text, answer, asked)
     }
 
@@ -124,10 +129,18 @@ impl Judge {
             if answer.outcome != Outcome::TooLong {
                 entries::loop_agrees(text, *unroll, &answer, asked)?;
                 genfer_loop_agrees(&answer, *unroll)?;
-                count(&self.loops, &answer);
+                self.count_loop(&answer);
             }
         }
         Ok(())
+    }
+
+    fn count_loop(&self, answer: &Answer) {
+        let last = answer.accepted.as_ref().and_then(|it| it.loops.last());
+        if let (Outcome::State(_), Some(last)) = (&answer.outcome, last) {
+            add(&self.loops, true);
+            add(&self.widened, last.passes.widening > 0);
+        }
     }
 
     fn all_answers(&self, text: &[u8], answer: &Answer, difference: &str) -> String {
@@ -180,10 +193,8 @@ fn genfer_loop_agrees(answer: &Answer, unroll: u64) -> Result<(), String> {
     last_loop_agrees(accepted, unroll)
 }
 
-fn count(compared: &Cell<u64>, answer: &Answer) {
-    if let Outcome::State(_) = answer.outcome {
-        compared.set(compared.get() + 1);
-    }
+fn add(count: &Cell<u64>, one: bool) {
+    count.set(count.get() + u64::from(one));
 }
 
 /// Genfer overflows in the statement that it came to last.

@@ -51,10 +51,11 @@ pub fn compare(arguments: &Arguments) -> u64 {
         run.without_limits(arguments);
     }
     if library::PRESENT {
-        let (marks, loops) = (run.judge.marks.get(), run.judge.loops.get());
         println!(
-            "of Woolquern's other functions: {} marks, {} loops",
-            marks, loops
+            "of Woolquern's other functions: {} marks, {} loops of which {} widened",
+            run.judge.marks.get(),
+            run.judge.loops.get(),
+            run.judge.widened.get()
         );
     }
     println!(
@@ -99,6 +100,7 @@ impl Run {
                 .accepted
                 .and_then(|program| Some(program.loops.last()?.passes));
             self.expect(text, &format!("{:?}", Some(passes)), &format!("{:?}", said));
+            self.check_asked(text.as_bytes(), Asked::Thoroughly);
         }
         for difference in differences::of_texts() {
             self.check_asked(difference.text.as_bytes(), Asked::Thoroughly);
