@@ -3,6 +3,7 @@ pub mod Passed
 pub mod Says
 pub mod Steps
 pub mod Turns
+pub mod Rests
 pub mod Given
 pub mod Plains
 pub mod Cuts

@@ -13,17 +13,21 @@ use Rattle.paper.specs.Code as code
 use Rattle.paper.specs.Rules as rules
 use Rattle.paper.specs.Rules.{Setting}
 use Rattle.paper.specs.Trace as trace
+use Rattle.paper.specs.Trace.{mark}
 use Rattle.paper.specs.Tree.{Unroll, Event, While, Statements}
 use Rattle.analysis.specs.declared.Pass.{Pass}
 use Rattle.analysis.specs.declared.Found.{Found}
-use Rattle.analysis.specs.declared.Found.the-variants.{At, Nowhere, Refused as Stopped}
+use Rattle.analysis.specs.declared.Found.the-variants.{At}
+use Rattle.analysis.specs.declared.Sought as seeking
 use Rattle.analysis.specs.declared.Settling.{Settling}
 use Rattle.analysis.specs.declared.Settled.{Settled}
 use Rattle.analysis.specs.declared.LoopAnswer.{LoopAnswer}
 use Rattle.analysis.specs.Loops.{refusal-of, unrolls-by, searched-by}
-use Rattle.analysis.specs.Outcomes.{passed, found-by, grown, settled-on, looped}
+use Rattle.analysis.specs.Outcomes.{passed, found-by, sought-by, grown, settled-on, looped}
+use Rattle.analysis.specs.Sought.{Sought, sought, at-rest}
 use Rattle.analysis.specs.Noted as noted
 use Rattle.analysis.specs.Noted.{Noted, plain, then-noted, ending, Says}
+use Rattle.analysis.proofs.Rests.{gives-one, mark-again, search-is, rests, rests-by}
 use Rattle.analysis.proofs.Says.{Leads, leads-self, leads-then, leads-by, says-plain, from-good, from-refused, then-good, then-refused, then-stopped, ending-good, ending-refused, answered-good, answered-refused, passed-good, passed-refused, grown-good, grown-refused, settled-good, settled-refused, looped-good, looped-refused}
 
 -- ---- what the search found
@@ -70,6 +74,10 @@ finds (Gives (rules.AtPass j)) e v = record { found = rules.AtPass j; gives = re
 finds (Gives rules.Nowhere) e v = record { found = rules.Nowhere; gives = refl; searched = rw e; unrolls = λ u. rw e }
 finds (Refuses number place) e v = absurd (let w = rw e at v in let z : _≡_ {A = ℕ} 0 1 = cc in omega arith)
 
+pub searched-of : (f : rules.Found) → searched-by (found-by (Gives f)) ≡ rules.search-passes f
+searched-of (rules.AtPass i) = refl
+searched-of rules.Nowhere = refl
+
 module _ (g : Setting) (at : ℕ) (e : Event) (b : Statements) where
   -- ---- a pass: its event, its body
 
@@ -94,11 +102,18 @@ module _ (g : Setting) (at : ℕ) (e : Event) (b : Statements) where
 
   -- ---- the stages, one pass further: `left` passes are left, `rest` after this one
 
+  -- the state and the exits from which a pass sets out
+  abbrev pub from-here : State → State → rules.Pass
+  from-here s exits = record { next = s; exit = exits }
+
   -- after a pass of the search, by whether the new state equals the old
-  abbrev pub searched : ℕ → ℕ → rules.Pass → Bool → Noted rules.Found
-  searched rest i p c = record {
-    answer = elim c [ true ↦ Gives (rules.AtPass i) | false ↦ noted.search g at e b rest (i + 1) (p .next) .answer ];
-    places = elim c [ true ↦ [] | false ↦ noted.search g at e b rest (i + 1) (p .next) .places ];
+  abbrev pub searched : ℕ → ℕ → State → State → rules.Pass → Bool → Noted Sought
+  searched rest i s exits p c = record {
+    answer = elim c [
+      | true ↦ Gives (record { found = rules.AtPass i; turned = s; exits = states.join (g .n) exits (p .exit) })
+      | false ↦ noted.sought g at e b rest (i + 1) (from-here (p .next) (states.join (g .n) exits (p .exit))) .answer
+    ];
+    places = elim c [ true ↦ [] | false ↦ noted.sought g at e b rest (i + 1) (from-here (p .next) (states.join (g .n) exits (p .exit))) .places ];
   }
 
   -- after an unrolled pass
@@ -123,24 +138,28 @@ module _ (g : Setting) (at : ℕ) (e : Event) (b : Statements) where
     stopped : {number place : ℕ} → r .verdict ≡ Refused number place → noted.pass-by g at e b s ≡ Refuses number place
     stopped v = passed-refused (noted.pass-by g at e b s) (q .out) v
 
-    module _ (i : ℕ) where
-      one-search : Leads found-by (noted.search g at e b left i s) m (then-noted (noted.pass g at e b s) (λ p. searched rest i p (states.same (g .n) s (p .next)))) m
-      unfolding rules.search trace.search
-      one-search = leads-by (ap (λ (k : ℕ). noted.search g at e b k i s) one-more)
+    module _ (exits : State) (i : ℕ) where
+      abbrev pub searched-by-test : rules.Pass → Noted Sought
+      searched-by-test p = searched rest i s exits p (states.same (g .n) s (p .next))
 
-      after-search : (c : Bool) → r .verdict ≡ Good → states.same (g .n) s (r .next) ≡ c → Leads found-by (noted.search g at e b left i s) m (searched rest i was c) m₁
-      after-search c v w = leads-then one-search (leads-then
-          (then-good passed found-by (noted.pass g at e b s) r m m₁ q (λ p. searched rest i p (states.same (g .n) s (p .next))) (gave v))
-          (leads-by (ap (searched rest i was) w)))
+      one-search : Leads sought-by (noted.sought g at e b left i (from-here s exits)) m (then-noted (noted.pass g at e b s) searched-by-test) m
+      unfolding sought trace.search
+      one-search = leads-by (ap (λ (k : ℕ). noted.sought g at e b k i (from-here s exits)) one-more)
 
-      pub search-refused : {number place : ℕ} → r .verdict ≡ Refused number place → Says found-by (noted.search g at e b left i s) (Stopped number place) m m₁
-      search-refused {number} {place} v = one-search .on (Stopped number place) m₁
-          (then-refused passed found-by (noted.pass g at e b s) r m m₁ q (λ p. searched rest i p (states.same (g .n) s (p .next))) (stopped v))
+      after-search : (c : Bool) → r .verdict ≡ Good → states.same (g .n) s (r .next) ≡ c → Leads sought-by (noted.sought g at e b left i (from-here s exits)) m (searched rest i s exits was c) m₁
+      after-search c v w = leads-then one-search (leads-then (then-good passed sought-by (noted.pass g at e b s) r m m₁ q searched-by-test (gave v)) (leads-by (ap (searched rest i s exits was) w)))
 
-      pub search-found : r .verdict ≡ Good → states.same (g .n) s (r .next) ≡ true → Says found-by (noted.search g at e b left i s) (At i) m m₁
-      search-found v w = after-search true v w .on (At i) m₁ (says-plain found-by (Gives (rules.AtPass i)) m₁)
+      pub search-refused : {number place : ℕ} → r .verdict ≡ Refused number place → Says sought-by (noted.sought g at e b left i (from-here s exits)) (sought-by (Refuses number place)) m m₁
+      search-refused {number} {place} v = one-search .on (sought-by (Refuses number place)) m₁ (then-refused passed sought-by (noted.pass g at e b s) r m m₁ q searched-by-test (stopped v))
 
-      pub search-on : r .verdict ≡ Good → states.same (g .n) s (r .next) ≡ false → Leads found-by (noted.search g at e b left i s) m (noted.search g at e b rest (i + 1) (r .next)) m₁
+      abbrev pub at-last : Sought
+      at-last = record { found = rules.AtPass i; turned = s; exits = states.join (g .n) exits (r .exit) }
+
+      pub search-found : r .verdict ≡ Good → states.same (g .n) s (r .next) ≡ true → Says sought-by (noted.sought g at e b left i (from-here s exits)) (sought-by (Gives at-last)) m m₁
+      search-found v w = after-search true v w .on (sought-by (Gives at-last)) m₁ (says-plain sought-by (Gives at-last) m₁)
+
+      pub search-on : r .verdict ≡ Good → states.same (g .n) s (r .next) ≡ false →
+          Leads sought-by (noted.sought g at e b left i (from-here s exits)) m (noted.sought g at e b rest (i + 1) (from-here (r .next) (states.join (g .n) exits (r .exit)))) m₁
       search-on v w = after-search false v w
 
     module _ (exits : State) where
@@ -179,9 +198,13 @@ module _ (g : Setting) (at : ℕ) (e : Event) (b : Statements) where
   -- ---- a stage with no pass left
 
   module _ (left : ℕ) (none : left ≡ 0) where
-    pub search-none : (i : ℕ) (s : State) (m : List ℕ) → Says found-by (noted.search g at e b left i s) Nowhere m m
-    unfolding rules.search trace.search
-    search-none i s m = leads-by (ap (λ (k : ℕ). noted.search g at e b k i s) none) .on Nowhere m (says-plain found-by (Gives rules.Nowhere) m)
+    pub search-none : (i : ℕ) (t : rules.Pass) (m : List ℕ) →
+        Says sought-by (noted.sought g at e b left i t) (sought-by (Gives (record { found = rules.Nowhere; turned = t .next; exits = t .exit }))) m m
+    unfolding sought trace.search
+    search-none i t m = leads-by (ap (λ (k : ℕ). noted.sought g at e b k i t) none) .on (sought-by (Gives nowhere)) m (says-plain sought-by (Gives nowhere) m)
+      where
+        nowhere : Sought
+        nowhere = record { found = rules.Nowhere; turned = t .next; exits = t .exit }
 
     pub unrolled-none : (t : rules.Pass) (m : List ℕ) → Says passed (noted.unrolled g at e b left t) (passed (Gives t)) m m
     unfolding rules.unrolled trace.unrolled
@@ -247,28 +270,14 @@ module _ (g : Setting) (at : ℕ) (e : Event) (b : Statements) where
   -- ---- the loop: search, unrolled passes, settling, exit
 
   module _ (u : ℕ) (s : State) where
-    abbrev pub summary : rules.Found → rules.Pass → rules.Settled → State → rules.Looped
-    summary f t settled x = record {
-      exits = states.join (g .n) (t .exit) x;
-      turned = t .next;
-      settled = settled .at;
-      searched = rules.search-passes f;
-      unrolls = rules.unroll-passes u f;
-      joined = settled .joined;
-      widened = settled .widened;
-    }
-
-    abbrev pub finish : rules.Found → rules.Pass → rules.Settled → Answer rules.Looped
-    finish f t settled = and-then (noted.exit-by g at e b (settled .at)) (λ x. Gives (summary f t settled x))
-
     abbrev pub settles : rules.Found → rules.Pass → Noted rules.Looped
-    settles f t = ending (noted.settle g at e b (t .next)) (finish f t)
+    settles f t = ending (noted.settle g at e b (t .next)) (noted.finish g at e b u s f t)
 
     abbrev pub turns-of : rules.Found → Noted rules.Pass
     turns-of f = noted.unrolled g at e b (rules.unroll-passes u f) (record { next = s; exit = states.empty })
 
     abbrev pub turns : rules.Found → Noted rules.Looped
-    turns f = then-noted (turns-of f) (settles f)
+    turns f = noted.onward g at e b u s f
 
     one-loop : (m : List ℕ) → Leads looped (noted.loop g at e b u s) m (then-noted (noted.search g at e b 100 0 s) turns) m
     unfolding rules.loop trace.loop
@@ -297,17 +306,68 @@ module _ (g : Setting) (at : ℕ) (e : Event) (b : Statements) where
       last = record { at = r .state; joined = r .joined; widened = r .widened }
 
       pub loop-unsettled : {number place : ℕ} → r .verdict ≡ Refused number place → Says looped (settles f t) (looped (Refuses number place)) m m₁
-      loop-unsettled v = ending-refused settled-on looped (noted.settle g at e b (t .next)) r m m₁ q (finish f t) (settled-refused (noted.settle g at e b (t .next) .answer) (q .out) v)
+      loop-unsettled v = ending-refused settled-on looped (noted.settle g at e b (t .next)) r m m₁ q (noted.finish g at e b u s f t) (settled-refused (noted.settle g at e b (t .next) .answer) (q .out) v)
 
-      loop-finish : r .verdict ≡ Good → Says looped (settles f t) (looped (finish f t last)) m m₁
-      loop-finish v = ending-good settled-on looped (noted.settle g at e b (t .next)) r m m₁ q (finish f t) (settled-good (noted.settle g at e b (t .next) .answer) (q .out) v)
+      loop-finish : r .verdict ≡ Good → Says looped (settles f t) (looped (noted.finish g at e b u s f t last)) m m₁
+      loop-finish v = ending-good settled-on looped (noted.settle g at e b (t .next)) r m m₁ q (noted.finish g at e b u s f t) (settled-good (noted.settle g at e b (t .next) .answer) (q .out) v)
 
       -- by the settled state's exit
-      pub loop-left : {x : State} → r .verdict ≡ Good → noted.exit-by g at e b (r .state) ≡ Gives x → Says looped (settles f t) (looped (Gives (summary f t last x))) m m₁
-      loop-left v w = let h = loop-finish v in record { out = ap (λ a. looped (and-then a (λ x. Gives (summary f t last x)))) (sym w) ∙ h .out; marks = h .marks }
+      pub loop-left : {x : State} → r .verdict ≡ Good → noted.exit-by g at e b (r .state) ≡ Gives x → Says looped (settles f t) (looped (Gives (noted.summary g at e b u s f t last x))) m m₁
+      loop-left v w = let h = loop-finish v in record { out = ap (λ a. looped (and-then a (λ x. Gives (noted.summary g at e b u s f t last x)))) (sym w) ∙ h .out; marks = h .marks }
 
       pub loop-unleft : {number place : ℕ} → r .verdict ≡ Good → noted.exit-by g at e b (r .state) ≡ Refuses number place → Says looped (settles f t) (looped (Refuses number place)) m m₁
-      loop-unleft v w = let h = loop-finish v in record { out = ap (λ a. looped (and-then a (λ x. Gives (summary f t last x)))) (sym w) ∙ h .out; marks = h .marks }
+      loop-unleft v w = let h = loop-finish v in record { out = ap (λ a. looped (and-then a (λ x. Gives (noted.summary g at e b u s f t last x)))) (sym w) ∙ h .out; marks = h .marks }
+
+  -- ---- the search that the code makes
+
+  -- it finds what the search finds
+  pub search-says : (t : rules.Pass) {o : seeking.Sought} {m m₁ : List ℕ} → Says sought-by (noted.sought g at e b 100 0 t) o m m₁ → Says found-by (noted.search g at e b 100 0 (t .next)) (o .found) m m₁
+  search-says t q = record {
+    out = ap (λ x. x .found) (q .out) ∙ kept (noted.sought g at e b 100 0 t .answer) ∙ ap found-by (sym (search-is (g .n) (noted.pass-by g at e b) (noted.exit-by g at e b) (noted.entered-by g at e b) 100 0 t));
+    marks = q .marks;
+  }
+    where
+      kept : (a : Answer Sought) → sought-by a .found ≡ found-by (and-then a (λ r. Gives (r .found)))
+      kept (Gives r) = refl
+      kept (Refuses number place) = refl
+
+  -- what the code keeps of a search that found a pass
+  found-at : (a : Answer Sought) {o : seeking.Sought} {i : ℕ} → o ≡ sought-by a → o .found ≡ At i → a ≡ Gives (record { found = rules.AtPass i; turned = o .turned; exits = o .exits })
+  found-at (Gives r) {o} {i} e f = by (r .found) refl (sym (ap (λ x. x .found) e) ∙ f)
+    where
+      by : (x : rules.Found) → r .found ≡ x → found-by (Gives x) ≡ At i → Gives r ≡ Gives (record { found = rules.AtPass i; turned = o .turned; exits = o .exits })
+      by (rules.AtPass j) q h =
+          let w : rules.AtPass j ≡ rules.AtPass i = cc in
+          ap (λ (y : rules.Found). Gives (record { found = y; turned = r .turned; exits = r .exits })) (q ∙ w)
+          ∙ ap (λ (z : seeking.Sought). Gives (record { found = rules.AtPass i; turned = z .turned; exits = z .exits })) (sym e)
+      by rules.Nowhere q h = absurd (let z : _≡_ {A = ℕ} 0 1 = cc in omega arith)
+  found-at (Refuses number place) e f = absurd (let w = ap (λ x. x .found) e in let z : _≡_ {A = ℕ} 0 1 = cc in omega arith)
+
+  -- what leaves a state is its pass's exit
+  leaves : (x : State) (p : rules.Pass) → noted.pass-by g at e b x ≡ Gives p → noted.exit-by g at e b x ≡ Gives (p .exit)
+  leaves x p q = by-event (rules.event g (at + 3) e x) q
+    where
+      by-body : (t : rules.Sides) (a : Answer State) → and-then a (λ y. Gives (record { next = y; exit = t .no })) ≡ Gives p → Gives (t .no) ≡ Gives (p .exit)
+      by-body t (Gives y) h = ap (λ (z : rules.Pass). Gives (z .exit)) (gives-one h)
+      by-body t (Refuses number place) h = absurd (let z : _≡_ {A = ℕ} 0 1 = cc in omega arith)
+
+      by-event : (a : Answer rules.Sides) → and-then a (λ t. and-then (rules.list g (code.body-at at e + 1) b (t .yes)) (λ y. Gives (record { next = y; exit = t .no }))) ≡ Gives p →
+          and-then a (λ t. Gives (t .no)) ≡ Gives (p .exit)
+      by-event (Gives t) h = by-body t (rules.list g (code.body-at at e + 1) b (t .yes)) h
+      by-event (Refuses number place) h = absurd (let z : _≡_ {A = ℕ} 0 1 = cc in omega arith)
+
+  -- a search that found a pass no sooner than the loop's own turns has made every pass
+  pub loop-rests : (u : ℕ) (s : State) {o : seeking.Sought} {m m₁ : List ℕ} → Says sought-by (noted.sought g at e b 100 0 (from-here s states.empty)) o m m₁ → (i : ℕ) → o .found ≡ At i → u ≤ i →
+      Says looped (noted.loop g at e b u s) (looped (Gives (at-rest i (record { found = rules.AtPass i; turned = o .turned; exits = o .exits })))) m m₁
+  loop-rests u s {o} {m} q i f few =
+      let r : Sought = record { found = rules.AtPass i; turned = o .turned; exits = o .exits } in
+      let h = found-at (noted.sought g at e b 100 0 (from-here s states.empty) .answer) (q .out) f in record {
+        out = ap looped (sym (rests (g .n) (noted.pass-by g at e b) (noted.exit-by g at e b) (noted.entered-by g at e b) leaves u s r i h refl few));
+        marks =
+            q .marks
+            ∙ sym (mark-again (noted.search g at e b 100 0 s .places) m)
+            ∙ ap (λ (l : List ℕ). mark l m) (sym (rests-by (g .n) (noted.pass-by g at e b) (noted.exit-by g at e b) (noted.entered-by g at e b) leaves u s r i h refl few));
+      }
 
   -- a loop as a statement gives its joined exits
   module _ (u : Unroll) (s : State) {r : LoopAnswer} {m m₁ : List ℕ} (q : Says looped (noted.loop g at e b (rules.turns g u) s) r m m₁) where

@@ -1,3 +1,4 @@
+pub mod Sought
 pub mod Outcomes
 pub mod Noted
 pub mod Plain

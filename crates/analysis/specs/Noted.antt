@@ -3,13 +3,15 @@ use mathlib.Core.Path.{_≡_}
 use mathlib.Core.List.{List, [], _++_}
 use Prim.Native.Nat.{ℕ, _+_}
 use Rattle.states.specs.declared.State.{State}
-use Rattle.states.specs.Answers.{Answer, and-then}
+use Rattle.states.specs.Answers.{Answer, Gives, and-then}
 use Rattle.paper.specs.Tree.{Event, Statement, Statements}
 use Rattle.paper.specs.Code as code
 use Rattle.paper.specs.Rules as rules
 use Rattle.paper.specs.Rules.{Setting}
 use Rattle.paper.specs.Trace as trace
 use Rattle.paper.specs.Trace.{after, entering, mark}
+use Rattle.states.specs.States as states
+use Rattle.analysis.specs.Sought as seeking
 
 pub record Noted (A : Type 0) : Type 0 where
   pub answer : Answer A
@@ -68,6 +70,10 @@ module _ (g : Setting) (at : ℕ) (e : Event) (b : Statements) where
   abbrev pub search : ℕ → ℕ → State → Noted rules.Found
   search k i s = record { answer = rules.search (g .n) pass-by exit-by k i s; places = trace.search (g .n) pass-by entered-by k s }
 
+  -- the search as the code makes it enters what the search enters
+  abbrev pub sought : ℕ → ℕ → rules.Pass → Noted seeking.Sought
+  sought k i t = record { answer = seeking.sought (g .n) pass-by k i t; places = trace.search (g .n) pass-by entered-by k (t .next) }
+
   abbrev pub unrolled : ℕ → rules.Pass → Noted rules.Pass
   unrolled k t = record { answer = rules.unrolled (g .n) pass-by exit-by k t; places = trace.unrolled (g .n) pass-by entered-by k (t .next) }
 
@@ -76,6 +82,25 @@ module _ (g : Setting) (at : ℕ) (e : Event) (b : Statements) where
 
   abbrev pub settle : State → Noted rules.Settled
   settle s = record { answer = rules.settle (g .n) pass-by exit-by s; places = trace.settle (g .n) pass-by entered-by exit-by s }
+
+  -- what follows a search that found f: unrolled passes, settling, the settled state's exit
+  module _ (u : ℕ) (s : State) (f : rules.Found) where
+    abbrev pub summary : rules.Pass → rules.Settled → State → rules.Looped
+    summary t m x = record {
+      exits = states.join (g .n) (t .exit) x;
+      turned = t .next;
+      settled = m .at;
+      searched = rules.search-passes f;
+      unrolls = rules.unroll-passes u f;
+      joined = m .joined;
+      widened = m .widened;
+    }
+
+    abbrev pub finish : rules.Pass → rules.Settled → Answer rules.Looped
+    finish t m = and-then (exit-by (m .at)) (λ x. Gives (summary t m x))
+
+    abbrev pub onward : Noted rules.Looped
+    onward = then-noted (unrolled (rules.unroll-passes u f) (record { next = s; exit = states.empty })) (λ t. ending (settle (t .next)) (finish t))
 
   abbrev pub loop : ℕ → State → Noted rules.Looped
   loop u s = record { answer = rules.loop (g .n) pass-by exit-by u s; places = trace.loop (g .n) pass-by entered-by exit-by u s }

@@ -8,9 +8,11 @@ use Rattle.paper.specs.Rules.{AtPass, Nowhere}
 use Rattle.analysis.specs.declared.Pass as pass
 use Rattle.analysis.specs.declared.Found as found
 use Rattle.analysis.specs.declared.Found.the-variants.{At, Nowhere as No-pass, Refused as Stopped}
+use Rattle.analysis.specs.declared.Sought as seeking
 use Rattle.analysis.specs.declared.Settling as settling
 use Rattle.analysis.specs.declared.Settled as settled
 use Rattle.analysis.specs.declared.LoopAnswer as loops
+use Rattle.analysis.specs.Sought.{Sought}
 
 abbrev pub passed : Answer rules.Pass → pass.Pass
 passed (Gives p) = record { verdict = Good; next = p .next; exit = p .exit }
@@ -20,6 +22,10 @@ abbrev pub found-by : Answer rules.Found → found.Found
 found-by (Gives (AtPass i)) = At i
 found-by (Gives Nowhere) = No-pass
 found-by (Refuses number place) = Stopped number place
+
+abbrev pub sought-by : Answer Sought → seeking.Sought
+sought-by (Gives s) = record { found = found-by (Gives (s .found)); turned = s .turned; exits = s .exits }
+sought-by (Refuses number place) = record { found = Stopped number place; turned = states.empty; exits = states.empty }
 
 abbrev pub grown : Answer rules.Settling → settling.Settling
 grown (Gives s) = record { verdict = Good; settled = s .settled; state = s .at; passes = s .passes }

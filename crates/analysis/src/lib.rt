@@ -28,6 +28,13 @@ pub enum Found {
     Refused(u64, usize),
 }
 
+// What the search finds, the state that its last pass set out from, and the exits of all its passes joined. Those of a refusal are empty.
+pub struct Sought {
+    pub found: Found,
+    pub turned: State,
+    pub exits: State,
+}
+
 // A state that a stage came to after so many passes, settled or not. That of a refusal is empty, after none.
 pub struct Settling {
     pub verdict: Verdict,

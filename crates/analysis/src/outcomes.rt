@@ -4,6 +4,7 @@ use crate::LoopAnswer;
 use crate::Pass;
 use crate::Settled;
 use crate::Settling;
+use crate::Sought;
 use crate::Values;
 use ranges::End;
 use ranges::Range;
@@ -13,7 +14,7 @@ ghost use mathlib.Core.Path.{_≡_};
 ghost use Prim.Native.Nat.{ℕ, _+_, _-_, _≤_, _^_};
 ghost use Rattle.analysis.specs.declared.Values.the-variants.{From};
 ghost use Rattle.analysis.specs.Loops as stages;
-ghost use Rattle.analysis.specs.Outcomes.{passed, grown as settling, settled-on, looped};
+ghost use Rattle.analysis.specs.Outcomes.{passed, sought-by, grown as settling, settled-on, looped};
 ghost use Rattle.states.specs.Answers.{Gives, Refuses};
 ghost use Rattle.analysis.specs.Noted.{setting};
 ghost use Rattle.paper.specs.Code as code;
@@ -39,6 +40,17 @@ pub fn stopped(number: u64, place: usize) -> Pass
         verdict: Verdict::Refused(number, place),
         next: s,
         exit: s,
+    }
+}
+
+pub fn unsought(number: u64, place: usize) -> Sought
+    ensures { λ r. ⌜ r ≡ sought-by (Refuses number place) ⌝ }
+{
+    let s = states::empty();
+    Sought {
+        found: Found::Refused(number, place),
+        turned: s,
+        exits: s,
     }
 }
 

@@ -4,6 +4,7 @@ use crate::LoopAnswer;
 use crate::Pass;
 use crate::Settled;
 use crate::Settling;
+use crate::Sought;
 use crate::Values;
 use crate::outcomes;
 use crate::plain;
@@ -20,14 +21,14 @@ ghost use mathlib.Core.Path.{_≡_};
 ghost use mathlib.Core.Bool.{cond};
 ghost use Prim.Native.Nat.{ℕ, _+_, _≤_, _<_, _^_};
 ghost use lib.ListN.{length, getD, set};
-ghost use Rattle.analysis.specs.Loops.{LoopIs, GivenAre, grow};
+ghost use Rattle.analysis.specs.Loops.{LoopIs, GivenAre, grow, searched-by};
 ghost use Rattle.analysis.specs.Noted as noted;
 ghost use Rattle.analysis.specs.Noted.{Says, setting};
-ghost use Rattle.analysis.specs.Outcomes.{passed, found-by, grown, settled-on, looped as loop-answer};
+ghost use Rattle.analysis.specs.Outcomes.{passed, found-by, sought-by, grown, settled-on, looped as loop-answer};
 ghost use Rattle.paper.specs.Code as code;
 ghost use Rattle.paper.specs.Rules as rules;
 ghost use Rattle.paper.specs.Tree.{Unroll, Event, Statement, Statements, While};
-ghost use Rattle.states.specs.Answers.{answered};
+ghost use Rattle.states.specs.Answers.{answered, Gives};
 ghost use Rattle.states.specs.States as states;
 ghost use Rattle.words.specs.Parts.{ListIs, StatementIs};
 
@@ -209,7 +210,7 @@ fn pass(words: &[u64], base: usize, n: usize, unroll: usize, state: State, marks
     outcomes::went(next, no)
 }
 
-// The search leaves its loop with the index of the first pass whose new state equals the old.
+// The search stops at the first pass whose new state equals the old. It joins the exits on its way.
 fn search(
     words: &[u64],
     base: usize,
@@ -217,32 +218,40 @@ fn search(
     unroll: usize,
     state: State,
     marks: &mut [u8],
-) -> Found
+) -> Sought
     requires { ⌜ LoopIs n (now words) ⌝ }
     requires { ⌜ n ≤ 64 ⌝ }
     requires { ⌜ unroll ≤ 10000 ⌝ }
     requires { ⌜ base + length (now words) ≤ length (now marks) ⌝ }
-    ensures { λ r. ⌜ ((u : Unroll) (e : Event) (b : Statements) → now (words .entry) ≡ code.statement (While u e b) → Says found-by (noted.search (setting n unroll) base e b 100 0 state) r (now (marks .entry)) (now (marks .exit))) ⌝ }
+    ensures { λ r. ⌜ ((u : Unroll) (e : Event) (b : Statements) → now (words .entry) ≡ code.statement (While u e b) → Says sought-by (noted.sought (setting n unroll) base e b 100 0 (record { next = state; exit = states.empty })) r (now (marks .entry)) (now (marks .exit))) ⌝ }
 {
     let mut s = state;
+    let mut exits = states::empty();
     let mut i: usize = 0;
-    let found = loop {
-        if i == 100 {
-            break Found::Nowhere;
-        }
+    while i < 100 {
         let p = pass(words, base, n, unroll, s, marks);
         let verdict = p.verdict;
         if let Verdict::Refused(number, place) = verdict {
-            break Found::Refused(number, place);
+            return outcomes::unsought(number, place);
         }
         let next = p.next;
+        let exit = p.exit;
+        exits = states::join(exits, exit, n);
         if states::same(s, next, n) {
-            break Found::At(i);
+            return Sought {
+                found: Found::At(i),
+                turned: s,
+                exits,
+            };
         }
         s = next;
         i += 1;
-    };
-    found
+    }
+    Sought {
+        found: Found::Nowhere,
+        turned: s,
+        exits,
+    }
 }
 
 // So many unrolled passes, joining exits.
@@ -363,12 +372,14 @@ fn leave(words: &[u64], base: usize, n: usize, state: State) -> Answer
     states::good(no)
 }
 
-// Search, unrolled passes, settling: the result is the joined exits with the settled state's exit.
-pub fn looped(
+// What follows the search: so many unrolled passes, settling; the result is the joined exits with the settled state's exit.
+fn onward(
     words: &[u64],
     base: usize,
     n: usize,
     unroll: usize,
+    found: Found,
+    turns: usize,
     state: State,
     marks: &mut [u8],
 ) -> LoopAnswer
@@ -376,15 +387,9 @@ pub fn looped(
     requires { ⌜ n ≤ 64 ⌝ }
     requires { ⌜ unroll ≤ 10000 ⌝ }
     requires { ⌜ base + length (now words) ≤ length (now marks) ⌝ }
-    ensures { λ r. ⌜ ((u : Unroll) (e : Event) (b : Statements) → now (words .entry) ≡ code.statement (While u e b) → Says loop-answer (noted.loop (setting n unroll) base e b (rules.turns (setting n unroll) u) state) r (now (marks .entry)) (now (marks .exit))) ⌝ }
+    requires { ⌜ searched-by found ≤ 100 ⌝ }
+    ensures { λ r. ⌜ ((u : Unroll) (e : Event) (b : Statements) (f : rules.Found) → now (words .entry) ≡ code.statement (While u e b) → found ≡ found-by (Gives f) → turns ≡ rules.unroll-passes (rules.turns (setting n unroll) u) f → Says loop-answer (noted.onward (setting n unroll) base e b (rules.turns (setting n unroll) u) state f) r (now (marks .entry)) (now (marks .exit))) ⌝ }
 {
-    let found = search(words, base, n, unroll, state, marks);
-    let searching = outcomes::refusal(found);
-    if let Verdict::Refused(number, place) = searching {
-        return outcomes::no_loop(number, place);
-    }
-    let own = outcomes::turns(words, n, unroll);
-    let turns = outcomes::unrolls(own, found);
     let t = unrolled(words, base, n, unroll, turns, state, marks);
     let turning = t.verdict;
     if let Verdict::Refused(number, place) = turning {
@@ -414,6 +419,39 @@ pub fn looped(
         m.joined,
         m.widened,
     )
+}
+
+// A search that found a pass no sooner than the loop's own turns has made every pass there is: from the state found, a pass gives that state again. Else the stages follow.
+pub fn looped(
+    words: &[u64],
+    base: usize,
+    n: usize,
+    unroll: usize,
+    state: State,
+    marks: &mut [u8],
+) -> LoopAnswer
+    requires { ⌜ LoopIs n (now words) ⌝ }
+    requires { ⌜ n ≤ 64 ⌝ }
+    requires { ⌜ unroll ≤ 10000 ⌝ }
+    requires { ⌜ base + length (now words) ≤ length (now marks) ⌝ }
+    ensures { λ r. ⌜ ((u : Unroll) (e : Event) (b : Statements) → now (words .entry) ≡ code.statement (While u e b) → Says loop-answer (noted.loop (setting n unroll) base e b (rules.turns (setting n unroll) u) state) r (now (marks .entry)) (now (marks .exit))) ⌝ }
+{
+    let sought = search(words, base, n, unroll, state, marks);
+    let found = sought.found;
+    let searching = outcomes::refusal(found);
+    if let Verdict::Refused(number, place) = searching {
+        return outcomes::no_loop(number, place);
+    }
+    let own = outcomes::turns(words, n, unroll);
+    if let Found::At(i) = found {
+        if own <= i {
+            let rest = sought.turned;
+            let exits = sought.exits;
+            return outcomes::loop_answer(exits, rest, rest, i + 1, i, 1, 0);
+        }
+    }
+    let turns = outcomes::unrolls(own, found);
+    onward(words, base, n, unroll, found, turns, state, marks)
 }
 
 // The given variables are peeled off one at a time: each value of the first is set as a point, the rest enumerated, the results joined.

@@ -2,8 +2,8 @@
 use mathlib.Core.Path.{_≡_, refl, sym, ap, subst}
 use mathlib.Core.Bool.{Bool, true, false, false≢true}
 use mathlib.Core.Logic.{_↔_}
-use mathlib.Core.List.{List}
-use Prim.Native.Nat.{ℕ, _≤_, _<_}
+use mathlib.Core.List.{List, [], _∷_}
+use Prim.Native.Nat.{ℕ, zero, suc, _≤_, _<_}
 use native.Mathlib.Omega.{arith}
 use lib.ListN.{length}
 use Rattle.ranges.specs.declared.Range.{Range}
@@ -16,6 +16,29 @@ use Rattle.states.specs.States.{Fit}
 use Rattle.states.proofs.Cells.{cell-at, at, each-at, every-at, every-make}
 use Rattle.states.proofs.Fits.{state, alike, fit-join}
 use Rattle.states.proofs.Proper.{Proper}
+
+-- a state that equals another has it within
+cell-turned : (c d : Cell) → states.same-cells c d ≡ true → states.within-cells d c ≡ true
+cell-turned c d h = rw (laws.same-eq (c .range) (d .range) h) (laws.within-self (d .range))
+
+every-turned : (k : ℕ) (cs ds : List Cell) → states.every states.same-cells k cs ds ≡ true → states.every states.within-cells k ds cs ≡ true
+unfolding states.every
+every-turned zero cs ds h = refl
+every-turned (suc k) [] [] h = refl
+every-turned (suc k) [] (d ∷ ds) h = refl
+every-turned (suc k) (c ∷ cs) [] h = refl
+every-turned (suc k) (c ∷ cs) (d ∷ ds) h = laws.both
+    (cell-turned c d (laws.left-of (states.same-cells c d) (states.every states.same-cells k cs ds) h))
+    (every-turned k cs ds (laws.right-of (states.same-cells c d) (states.every states.same-cells k cs ds) h))
+
+pub same-within : (n : ℕ) (s t : State) → states.same n s t ≡ true → states.within n t s ≡ true
+same-within n s t = go (s .live) (t .live) (s .cells) (t .cells)
+  where
+    go : (b c : Bool) (cs ds : List Cell) → states.same n (state b cs) (state c ds) ≡ true → states.within n (state c ds) (state b cs) ≡ true
+    go false false cs ds h = refl
+    go false true cs ds h = absurd (false≢true h)
+    go true false cs ds h = absurd (false≢true h)
+    go true true cs ds h = every-turned n cs ds h
 
 module _ (n : ℕ) (small : n ≤ 64) where
   -- ---- same is equality

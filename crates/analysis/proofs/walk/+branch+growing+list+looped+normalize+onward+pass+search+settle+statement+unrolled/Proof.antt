@@ -1,6 +1,7 @@
 -- The walk meets its contracts. The words of a part fall; at one part a list is below a pass, a pass below the stages of its loop, and these below the statement.
 use mathlib.Core.List.{List}
 use mathlib.Core.Bool.{true}
+use mathlib.Core.Logic.{⊎-elim}
 use mathlib.Core.Path.{_≡_, refl, ap, sym, _∙_, subst}
 use Prim.Native.Nat.{_^_, suc, _+_, _-_, _≤_, _*_, ℕ, _<_}
 use native.Mathlib.Omega.{arith}
@@ -48,34 +49,34 @@ use Rattle.analysis.proofs.Says.{Leads, leads-self, leads-then, answere
 use Rattle.analysis.proofs.Passed.{answer-long}
 use Rattle.analysis.proofs.walk.branch.Reads as branch
 use Rattle.analysis.proofs.walk.branch.Kinds as branch-kinds
-use Rattle.analysis.proofs.walk.+branch+growing+list+looped+normalize+pass+search+settle+statement+unrolled.Lts-branch as branch-lts
+use Rattle.analysis.proofs.walk.+branch+growing+list+looped+normalize+onward+pass+search+settle+statement+unrolled.Lts-branch as branch-lts
 use Rattle.analysis.proofs.walk.growing.Reads as growing
 use Rattle.analysis.proofs.walk.growing.Kinds as growing-kinds
-use Rattle.analysis.proofs.walk.+branch+growing+list+looped+normalize+pass+search+settle+statement+unrolled.Lts-growing as growing-lts
+use Rattle.analysis.proofs.walk.+branch+growing+list+looped+normalize+onward+pass+search+settle+statement+unrolled.Lts-growing as growing-lts
 use Rattle.analysis.proofs.walk.list.Reads as list
 use Rattle.analysis.proofs.walk.list.Kinds as list-kinds
-use Rattle.analysis.proofs.walk.+branch+growing+list+looped+normalize+pass+search+settle+statement+unrolled.Lts-list as list-lts
+use Rattle.analysis.proofs.walk.+branch+growing+list+looped+normalize+onward+pass+search+settle+statement+unrolled.Lts-list as list-lts
 use Rattle.analysis.proofs.walk.looped.Reads as looped
 use Rattle.analysis.proofs.walk.looped.Kinds as looped-kinds
-use Rattle.analysis.proofs.walk.+branch+growing+list+looped+normalize+pass+search+settle+statement+unrolled.Lts-looped as looped-lts
+use Rattle.analysis.proofs.walk.+branch+growing+list+looped+normalize+onward+pass+search+settle+statement+unrolled.Lts-looped as looped-lts
 use Rattle.analysis.proofs.walk.normalize.Reads as normalize
 use Rattle.analysis.proofs.walk.normalize.Kinds as normalize-kinds
-use Rattle.analysis.proofs.walk.+branch+growing+list+looped+normalize+pass+search+settle+statement+unrolled.Lts-normalize as normalize-lts
+use Rattle.analysis.proofs.walk.+branch+growing+list+looped+normalize+onward+pass+search+settle+statement+unrolled.Lts-normalize as normalize-lts
 use Rattle.analysis.proofs.walk.pass.Reads as pass
 use Rattle.analysis.proofs.walk.pass.Kinds as pass-kinds
-use Rattle.analysis.proofs.walk.+branch+growing+list+looped+normalize+pass+search+settle+statement+unrolled.Lts-pass as pass-lts
+use Rattle.analysis.proofs.walk.+branch+growing+list+looped+normalize+onward+pass+search+settle+statement+unrolled.Lts-pass as pass-lts
 use Rattle.analysis.proofs.walk.search.Reads as search′
 use Rattle.analysis.proofs.walk.search.Kinds as search-kinds
-use Rattle.analysis.proofs.walk.+branch+growing+list+looped+normalize+pass+search+settle+statement+unrolled.Lts-search as search-lts
+use Rattle.analysis.proofs.walk.+branch+growing+list+looped+normalize+onward+pass+search+settle+statement+unrolled.Lts-search as search-lts
 use Rattle.analysis.proofs.walk.settle.Reads as settle
 use Rattle.analysis.proofs.walk.settle.Kinds as settle-kinds
-use Rattle.analysis.proofs.walk.+branch+growing+list+looped+normalize+pass+search+settle+statement+unrolled.Lts-settle as settle-lts
+use Rattle.analysis.proofs.walk.+branch+growing+list+looped+normalize+onward+pass+search+settle+statement+unrolled.Lts-settle as settle-lts
 use Rattle.analysis.proofs.walk.statement.Reads as statement′
 use Rattle.analysis.proofs.walk.statement.Kinds as statement-kinds
-use Rattle.analysis.proofs.walk.+branch+growing+list+looped+normalize+pass+search+settle+statement+unrolled.Lts-statement as statement-lts
+use Rattle.analysis.proofs.walk.+branch+growing+list+looped+normalize+onward+pass+search+settle+statement+unrolled.Lts-statement as statement-lts
 use Rattle.analysis.proofs.walk.unrolled.Reads as unrolled
 use Rattle.analysis.proofs.walk.unrolled.Kinds as unrolled-kinds
-use Rattle.analysis.proofs.walk.+branch+growing+list+looped+normalize+pass+search+settle+statement+unrolled.Lts-unrolled as unrolled-lts
+use Rattle.analysis.proofs.walk.+branch+growing+list+looped+normalize+onward+pass+search+settle+statement+unrolled.Lts-unrolled as unrolled-lts
 use Rattle.analysis.proofs.outcomes.grow.Reads as grow-reads
 use Rattle.analysis.proofs.outcomes.grown.Reads as grown-reads
 use Rattle.analysis.proofs.outcomes.loop_answer.Reads as loop-answer-reads
@@ -94,8 +95,12 @@ use Rattle.analysis.proofs.plain.change.Reads as change-reads
 use Rattle.analysis.proofs.plain.source.Reads as source-reads
 use Rattle.analysis.proofs.walk.leave.Reads as leave-reads
 use Rattle.analysis.proofs.walk.mark.Reads as mark-reads
-use Rattle.analysis.proofs.walk.+branch+growing+list+looped+normalize+pass+search+settle+statement+unrolled.{statement}
-use Rattle.analysis.proofs.walk.+branch+growing+list+looped+normalize+pass+search+settle+statement+unrolled.Tie.{close}
+use Rattle.analysis.proofs.walk.+branch+growing+list+looped+normalize+onward+pass+search+settle+statement+unrolled.{statement}
+use Rattle.analysis.proofs.walk.+branch+growing+list+looped+normalize+onward+pass+search+settle+statement+unrolled.Tie.{close}
+use Rattle.analysis.proofs.walk.onward.Reads as onward
+use Rattle.analysis.proofs.walk.onward.Kinds as onward-kinds
+use Rattle.analysis.proofs.walk.+branch+growing+list+looped+normalize+onward+pass+search+settle+statement+unrolled.Lts-onward as onward-lts
+use Rattle.analysis.proofs.outcomes.unsought.Reads as unsought-reads
 
 abbrev μ-branch : Measures 2 branch-kinds.ps ℕ
 μ-branch κs a = 8 * length (a .0 .now) + 6
@@ -112,6 +117,9 @@ abbrev μ-looped : Measures 2 looped-kinds.ps ℕ
 abbrev μ-normalize : Measures 3 normalize-kinds.ps ℕ
 μ-normalize κs a = 8 * (length (a .0 .now) + length (a .1 .1 .0 .now)) + 1
 
+abbrev μ-onward : Measures 2 onward-kinds.ps ℕ
+μ-onward κs a = 8 * length (a .0 .now) + 5
+
 abbrev μ-pass : Measures 2 pass-kinds.ps ℕ
 μ-pass κs a = 8 * length (a .0 .now) + 2
 
@@ -119,7 +127,7 @@ abbrev μ-search : Measures 2 search-kinds.ps ℕ
 μ-search κs a = 8 * length (a .0 .now) + 3
 
 abbrev μ-settle : Measures 2 settle-kinds.ps ℕ
-μ-settle κs a = 8 * length (a .0 .now) + 5
+μ-settle κs a = 8 * length (a .0 .now) + 4
 
 abbrev μ-statement : Measures 2 statement-kinds.ps ℕ
 μ-statement κs a = 8 * length (a .0 .now) + 7
@@ -157,6 +165,12 @@ normalize-at t = and 3 normalize-kinds.ps (is 3 normalize-kinds.ps μ-normalize 
 abbrev normalize-below : ℕ → In 3 normalize-kinds.ps
 normalize-below t =
     and 3 normalize-kinds.ps (falls 3 normalize-kinds.ps _<_ μ-normalize t) normalize.Pre
+
+abbrev onward-at : ℕ → In 2 onward-kinds.ps
+onward-at t = and 2 onward-kinds.ps (is 2 onward-kinds.ps μ-onward t) onward.Pre
+
+abbrev onward-below : ℕ → In 2 onward-kinds.ps
+onward-below t = and 2 onward-kinds.ps (falls 2 onward-kinds.ps _<_ μ-onward t) onward.Pre
 
 abbrev pass-at : ℕ → In 2 pass-kinds.ps
 pass-at t = and 2 pass-kinds.ps (is 2 pass-kinds.ps μ-pass t) pass.Pre
@@ -204,11 +218,15 @@ list-claims t =
 
 abbrev looped-claims : ℕ → looped-lts.Claims
 looped-claims t =
-    (search-below t, search′.Post, refusal-reads.Asked, refusal-reads.Learnt, no-loop-reads.Asked, no-loop-reads.Learnt, turns-reads.Asked, turns-reads.Learnt, unrolls-reads.Asked, unrolls-reads.Learnt, unrolled-below t, unrolled.Post, settle-below t, settle.Post, leave-reads.Asked, leave-reads.Learnt, join-reads.Asked, join-reads.Learnt, searched-reads.Asked, searched-reads.Learnt, loop-answer-reads.Asked, loop-answer-reads.Learnt)
+    (search-below t, search′.Post, refusal-reads.Asked, refusal-reads.Learnt, no-loop-reads.Asked, no-loop-reads.Learnt, turns-reads.Asked, turns-reads.Learnt, loop-answer-reads.Asked, loop-answer-reads.Learnt, unrolls-reads.Asked, unrolls-reads.Learnt, onward-below t, onward.Post)
 
 abbrev normalize-claims : ℕ → normalize-lts.Claims
 normalize-claims t =
     (list-below t, list.Post, values-reads.Asked, values-reads.Learnt, refused-reads.Asked, refused-reads.Learnt, empty-reads.Asked, empty-reads.Learnt, normalize-below t, normalize.Post, join-reads.Asked, join-reads.Learnt, good-reads.Asked, good-reads.Learnt)
+
+abbrev onward-claims : ℕ → onward-lts.Claims
+onward-claims t =
+    (unrolled-below t, unrolled.Post, no-loop-reads.Asked, no-loop-reads.Learnt, settle-below t, settle.Post, leave-reads.Asked, leave-reads.Learnt, join-reads.Asked, join-reads.Learnt, searched-reads.Asked, searched-reads.Learnt, loop-answer-reads.Asked, loop-answer-reads.Learnt)
 
 abbrev pass-claims : ℕ → pass-lts.Claims
 pass-claims t =
@@ -216,7 +234,7 @@ pass-claims t =
 
 abbrev search-claims : ℕ → search-lts.Claims
 search-claims t =
-    (pass-below t, pass.Post, same-reads.Asked, same-reads.Learnt)
+    (empty-reads.Asked, empty-reads.Learnt, pass-below t, pass.Post, unsought-reads.Asked, unsought-reads.Learnt, join-reads.Asked, join-reads.Learnt, same-reads.Asked, same-reads.Learnt)
 
 abbrev settle-claims : ℕ → settle-lts.Claims
 settle-claims t =
@@ -898,24 +916,22 @@ list-returns-3 t c =
     let j = walks.going-last (l .inv .1 .1 .1 t h) (omega (arith, c .before .loop-test .left)) in
     record { out = c .good2 .ensures ∙ j .out; marks = j .marks }
 
--- what the search found, where it was not refused, and so how many passes are unrolled
-looped-found : (t : ℕ) (c : looped-lts.After-enum-told (looped-claims t) (looped-at t) looped.Post) (u : Unroll) (e : Event) (b : Statements) (h : c .before .before .before .before .before .before .before .before .before .args .words .now ≡ code.statement (While u e b)) → turns-laws.Finds (noted.search (setting (c .before .before .before .before .before .before .before .before .before .args .n) (c .before .before .before .before .before .before .before .before .before .args .unroll)) (c .before .before .before .before .before .before .before .before .before .args .base) e b 100 0 (c .before .before .before .before .before .before .before .before .before .args .state) .answer) (c .before .before .before .before .before .search .result)
-looped-found t c u e b h = turns-laws.finds (noted.search (setting (c .before .before .before .before .before .before .before .before .before .args .n) (c .before .before .before .before .before .before .before .before .before .args .unroll)) (c .before .before .before .before .before .before .before .before .before .args .base) e b 100 0 (c .before .before .before .before .before .before .before .before .before .args .state) .answer) (c .before .before .before .before .before .search .ensures u e b h .out) (sym (c .before .before .refusal .ensures) ∙ c .enum-told .given .1)
+-- what the search found
+looped-searched : (t : ℕ) (c : looped-lts.After-search (looped-claims t) (looped-at t) looped.Post) (u : Unroll) (e : Event) (b : Statements) (h : c .before .before .before .before .args .words .now ≡ code.statement (While u e b)) →
+    Says outcomes.found-by (noted.search (setting (c .before .before .before .before .args .n) (c .before .before .before .before .args .unroll)) (c .before .before .before .before .args .base) e b 100 0 (c .before .before .before .before .args .state)) (c .search .result .found) (c .before .before .before .before .args .marks .now) (c .search .last .1 .1 .1 .1 .1 .0)
+looped-searched t c u e b h =
+    let s = c .before .before .before .before in
+    turns-laws.search-says (setting (s .args .n) (s .args .unroll)) (s .args .base) e b (record { next = s .args .state; exit = states.empty }) (c .search .ensures u e b h)
 
-looped-many : (t : ℕ) (c : looped-lts.After-unrolls (looped-claims t) (looped-at t) looped.Post) (u : Unroll) (e : Event) (b : Statements) (h : c .before .before .before .before .before .before .before .before .before .before .before .args .words .now ≡ code.statement (While u e b)) → c .unrolls .result ≡ rules.unroll-passes (rules.turns (setting (c .before .before .before .before .before .before .before .before .before .before .before .args .n) (c .before .before .before .before .before .before .before .before .before .before .before .args .unroll)) u) (looped-found t (c .before .before) u e b h .found)
-looped-many t c u e b h = c .unrolls .ensures ∙ ap (λ (k : ℕ). stages.unrolls-by k (c .before .before .before .before .before .before .before .search .result)) (c .before .turns .ensures u e b h) ∙ looped-found t (c .before .before) u e b h .unrolls (rules.turns (setting (c .before .before .before .before .before .before .before .before .before .before .before .args .n) (c .before .before .before .before .before .before .before .before .before .before .before .args .unroll)) u)
+looped-few : (t : ℕ) (c : looped-lts.After-search (looped-claims t) (looped-at t) looped.Post) → stages.searched-by (c .search .result .found) ≤ 100
+looped-few t c =
+    let s = c .before .before .before .before in
+    let p = s .pre .1 .0 in
+    turns-laws.search-few (setting (s .args .n) (s .args .unroll)) (s .args .base) (p .event) (p .body) (s .args .state) (looped-searched t c (p .unroll) (p .event) (p .body) (p .is))
 
--- a loop whose search and unrolled passes were not refused goes on to settle
-looped-turned : (t : ℕ) (c : looped-lts.After-enum-told2 (looped-claims t) (looped-at t) looped.Post) (u : Unroll) (e : Event) (b : Statements) (h : c .before .before .before .before .before .before .before .before .before .before .before .before .before .before .before .before .before .args .words .now ≡ code.statement (While u e b)) →
-    Leads outcomes.looped (noted.loop (setting (c .before .before .before .before .before .before .before .before .before .before .before .before .before .before .before .before .before .args .n) (c .before .before .before .before .before .before .before .before .before .before .before .before .before .before .before .before .before .args .unroll)) (c .before .before .before .before .before .before .before .before .before .before .before .before .before .before .before .before .before .args .base) e b (rules.turns (setting (c .before .before .before .before .before .before .before .before .before .before .before .before .before .before .before .before .before .args .n) (c .before .before .before .before .before .before .before .before .before .before .before .before .before .before .before .before .before .args .unroll)) u) (c .before .before .before .before .before .before .before .before .before .before .before .before .before .before .before .before .before .args .state)) (c .before .before .before .before .before .before .before .before .before .before .before .before .before .before .before .before .before .args .marks .now)
-    (turns-laws.settles (setting (c .before .before .before .before .before .before .before .before .before .before .before .before .before .before .before .before .before .args .n) (c .before .before .before .before .before .before .before .before .before .before .before .before .before .before .before .before .before .args .unroll)) (c .before .before .before .before .before .before .before .before .before .before .before .before .before .before .before .before .before .args .base) e b (rules.turns (setting (c .before .before .before .before .before .before .before .before .before .before .before .before .before .before .before .before .before .args .n) (c .before .before .before .before .before .before .before .before .before .before .before .before .before .before .before .before .before .args .unroll)) u) (c .before .before .before .before .before .before .before .before .before .before .before .before .before .before .before .before .before .args .state) (looped-found t (c .before .before .before .before .before .before .before .before) u e b h .found) (record { next = c .before .before .before .before .unrolled .result .next; exit = c .before .before .before .before .unrolled .result .exit })) (c .before .before .before .before .unrolled .last .1 .1 .1 .1 .1 .1 .0)
-looped-turned t c u e b h =
-    let s = c .before .before .before .before .before .before .before .before .before .before .before .before .before .before .before .before .before in
-    let g = setting (s .args .n) (s .args .unroll) in
-    let U = rules.turns g u in
-    let f = looped-found t (c .before .before .before .before .before .before .before .before) u e b h in
-    leads-then (turns-laws.loop-searched g (s .args .base) e b U (s .args .state) (c .before .before .before .before .before .before .before .before .before .before .before .before .before .search .ensures u e b h) f)
-    (turns-laws.loop-turned g (s .args .base) e b U (s .args .state) (f .found) (c .before .before .before .before .before .before .unrolls .result) (looped-many t (c .before .before .before .before .before .before) u e b h) (c .before .before .before .before .unrolled .ensures u e b h) (c .enum-told2 .given .1))
+-- after the test what was found is still what the search found
+looped-came : (t : ℕ) (c : looped-lts.At-match2-came (looped-claims t) (looped-at t) looped.Post) → c .match2 .found ≡ c .before .before .before .before .before .before .before .search .result .found
+looped-came t c = ⊎-elim (λ w. w .4 ∙ sym (w .1 .given .1)) (λ w. w .1) (c .match2 .came)
 
 looped-search-requires : (t : ℕ) → looped-lts.Need-search-requires (looped-claims t) (looped-at t) looped.Post
 looped-search-requires t c κs =
@@ -940,7 +956,7 @@ looped-returns t c =
     let s = c .before .before .before .before .before .before .before .before .before .before .before in
     let g = setting (s .args .n) (s .args .unroll) in
     let U = rules.turns g u in
-    let q = c .before .before .before .before .before .before .before .search .ensures u e b h in
+    let q = looped-searched t (c .before .before .before .before .before .before .before) u e b h in
     rw (c .no-loop .ensures) (turns-laws.loop-unsearched g (s .args .base) e b U (s .args .state) q (sym (c .before .before .before .before .refusal .ensures) ∙ c .before .before .searching .given .1))
 
 looped-enum-told : (t : ℕ) → looped-lts.Need-enum-told (looped-claims t) (looped-at t) looped.Post
@@ -949,122 +965,51 @@ looped-enum-told t c = search needs
 looped-turns-requires : (t : ℕ) → looped-lts.Need-turns-requires (looped-claims t) (looped-at t) looped.Post
 looped-turns-requires t c κs = c .before .before .before .before .before .before .before .before .before .pre .1 .0
 
-looped-unrolls-requires : (t : ℕ) → looped-lts.Need-unrolls-requires (looped-claims t) (looped-at t) looped.Post
-looped-unrolls-requires t c κs = tt
+looped-enum-known-found : (t : ℕ) → looped-lts.Need-enum-known-found (looped-claims t) (looped-at t) looped.Post
+looped-enum-known-found t c = search needs
 
-looped-unrolled-requires : (t : ℕ) → looped-lts.Need-unrolled-requires (looped-claims t) (looped-at t) looped.Post
-looped-unrolled-requires t c κs =
-    let s = c .before .before .before .before .before .before .before .before .before .before .before .before in
-    (omega (arith, s .pre .0), (s .pre .1 .0, (s .pre .1 .1 .0, (s .pre .1 .1 .1 .0, omega (arith, s .pre .1 .1 .1 .1, c .before .before .before .before .before .before .before .before .search .kept .1 .1 .1 .1 .1 .0)))))
-
-looped-enum-known-turning : (t : ℕ) → looped-lts.Need-enum-known-turning (looped-claims t) (looped-at t) looped.Post
-looped-enum-known-turning t c = search needs
-
-looped-no-loop-requires-2 : (t : ℕ) → looped-lts.Need-no-loop-requires-2 (looped-claims t) (looped-at t) looped.Post
-looped-no-loop-requires-2 t c κs = tt
-
-looped-same-length-2 : (t : ℕ) → looped-lts.Need-same-length-2 (looped-claims t) (looped-at t) looped.Post
-looped-same-length-2 t c = c .before .before .before .before .before .before .unrolled .kept .1 .1 .1 .1 .1 .1 .0 ∙ c .before .before .before .before .before .before .before .before .before .before .before .before .before .before .before .search .kept .1 .1 .1 .1 .1 .0
-
-looped-returns-2 : (t : ℕ) → looped-lts.Need-returns-2 (looped-claims t) (looped-at t) looped.Post
-looped-returns-2 t c =
-    λ u e b h.
-    let s = c .before .before .before .before .before .before .before .before .before .before .before .before .before .before .before .before .before .before .before in
-    let g = setting (s .args .n) (s .args .unroll) in
-    let U = rules.turns g u in
-    let f = looped-found t (c .before .before .before .before .before .before .before .before .before .before) u e b h in
-    let on = turns-laws.loop-searched g (s .args .base) e b U (s .args .state) (c .before .before .before .before .before .before .before .before .before .before .before .before .before .before .before .search .ensures u e b h) f in
-    rw (c .no-loop2 .ensures) (on .on _ _ (turns-laws.loop-unturned g (s .args .base) e b U (s .args .state) (f .found) (c .before .before .before .before .before .before .before .before .unrolls .result) (looped-many t (c .before .before .before .before .before .before .before .before) u e b h) (c .before .before .before .before .before .before .unrolled .ensures u e b h) (c .before .before .turning .given .1)))
-
-looped-enum-told-2 : (t : ℕ) → looped-lts.Need-enum-told-2 (looped-claims t) (looped-at t) looped.Post
-looped-enum-told-2 t c = search needs
-
-looped-settle-requires : (t : ℕ) → looped-lts.Need-settle-requires (looped-claims t) (looped-at t) looped.Post
-looped-settle-requires t c κs =
-    let s = c .before .before .before .before .before .before .before .before .before .before .before .before .before .before .before .before .before .before .before in
-    (omega (arith, s .pre .0), (s .pre .1 .0, (s .pre .1 .1 .0, (s .pre .1 .1 .1 .0, omega (arith, s .pre .1 .1 .1 .1, c .before .before .before .before .before .before .before .before .before .before .before .before .before .before .before .search .kept .1 .1 .1 .1 .1 .0, c .before .before .before .before .before .before .unrolled .kept .1 .1 .1 .1 .1 .1 .0)))))
-
-looped-enum-known-settling : (t : ℕ) → looped-lts.Need-enum-known-settling (looped-claims t) (looped-at t) looped.Post
-looped-enum-known-settling t c = search needs
-
-looped-no-loop-requires-3 : (t : ℕ) → looped-lts.Need-no-loop-requires-3 (looped-claims t) (looped-at t) looped.Post
-looped-no-loop-requires-3 t c κs = tt
-
-looped-same-length-3 : (t : ℕ) → looped-lts.Need-same-length-3 (looped-claims t) (looped-at t) looped.Post
-looped-same-length-3 t c = c .before .before .before .before .before .before .settle .kept .1 .1 .1 .1 .1 .0 ∙ c .before .before .before .before .before .before .before .before .before .before .before .before .before .unrolled .kept .1 .1 .1 .1 .1 .1 .0 ∙ c .before .before .before .before .before .before .before .before .before .before .before .before .before .before .before .before .before .before .before .before .before .before .search .kept .1 .1 .1 .1 .1 .0
-
-looped-returns-3 : (t : ℕ) → looped-lts.Need-returns-3 (looped-claims t) (looped-at t) looped.Post
-looped-returns-3 t c =
-    λ u e b h.
-    let s = c .before .before .before .before .before .before .before .before .before .before .before .before .before .before .before .before .before .before .before .before .before .before .before .before .before .before in
-    let g = setting (s .args .n) (s .args .unroll) in
-    let U = rules.turns g u in
-    let f = looped-found t (c .before .before .before .before .before .before .before .before .before .before .before .before .before .before .before .before .before) u e b h in
-    let was : rules.Pass = record { next = c .before .before .before .before .before .before .before .before .before .before .before .before .before .unrolled .result .next; exit = c .before .before .before .before .before .before .before .before .before .before .before .before .before .unrolled .result .exit } in
-    let on = looped-turned t (c .before .before .before .before .before .before .before .before .before) u e b h in
-    let m = c .before .before .before .before .before .before .settle .ensures u e b h in
-    rw (c .no-loop3 .ensures) (on .on _ _ (turns-laws.loop-unsettled g (s .args .base) e b U (s .args .state) (f .found) was m (c .before .before .settling .given .1)))
-
-looped-enum-told-3 : (t : ℕ) → looped-lts.Need-enum-told-3 (looped-claims t) (looped-at t) looped.Post
-looped-enum-told-3 t c = search needs
-
-looped-leave-requires : (t : ℕ) → looped-lts.Need-leave-requires (looped-claims t) (looped-at t) looped.Post
-looped-leave-requires t c κs =
-    let s = c .before .before .before .before .before .before .before .before .before .before .before .before .before .before .before .before .before .before .before .before .before .before .before .before .before in
-    (s .pre .1 .0, (s .pre .1 .1 .0, omega (arith, s .pre .1 .1 .1 .1, s .good)))
-
-looped-enum-known-leaving : (t : ℕ) → looped-lts.Need-enum-known-leaving (looped-claims t) (looped-at t) looped.Post
-looped-enum-known-leaving t c = search needs
-
-looped-no-loop-requires-4 : (t : ℕ) → looped-lts.Need-no-loop-requires-4 (looped-claims t) (looped-at t) looped.Post
-looped-no-loop-requires-4 t c κs = tt
-
-looped-same-length-4 : (t : ℕ) → looped-lts.Need-same-length-4 (looped-claims t) (looped-at t) looped.Post
-looped-same-length-4 t c = c .before .before .before .before .before .before .before .before .before .before .settle .kept .1 .1 .1 .1 .1 .0 ∙ c .before .before .before .before .before .before .before .before .before .before .before .before .before .before .before .before .before .unrolled .kept .1 .1 .1 .1 .1 .1 .0 ∙ c .before .before .before .before .before .before .before .before .before .before .before .before .before .before .before .before .before .before .before .before .before .before .before .before .before .before .search .kept .1 .1 .1 .1 .1 .0
-
-looped-returns-4 : (t : ℕ) → looped-lts.Need-returns-4 (looped-claims t) (looped-at t) looped.Post
-looped-returns-4 t c =
-    λ u e b h.
-    let s = c .before .before .before .before .before .before .before .before .before .before .before .before .before .before .before .before .before .before .before .before .before .before .before .before .before .before .before .before .before .before in
-    let g = setting (s .args .n) (s .args .unroll) in
-    let U = rules.turns g u in
-    let f = looped-found t (c .before .before .before .before .before .before .before .before .before .before .before .before .before .before .before .before .before .before .before .before .before) u e b h in
-    let was : rules.Pass = record { next = c .before .before .before .before .before .before .before .before .before .before .before .before .before .before .before .before .before .unrolled .result .next; exit = c .before .before .before .before .before .before .before .before .before .before .before .before .before .before .before .before .before .unrolled .result .exit } in
-    let on = looped-turned t (c .before .before .before .before .before .before .before .before .before .before .before .before .before) u e b h in
-    let m = c .before .before .before .before .before .before .before .before .before .before .settle .ensures u e b h in
-    let x = c .before .before .before .before .leave .ensures (s .args .unroll) u e b h in
-    rw (c .no-loop4 .ensures) (on .on _ _ (turns-laws.loop-unleft g (s .args .base) e b U (s .args .state) (f .found) was m (c .before .before .before .before .before .before .enum-told3 .given .1) (answered-refused _ x (c .before .before .leaving .given .1))))
-
-looped-enum-told-4 : (t : ℕ) → looped-lts.Need-enum-told-4 (looped-claims t) (looped-at t) looped.Post
-looped-enum-told-4 t c = search needs
-
-looped-join-requires : (t : ℕ) → looped-lts.Need-join-requires (looped-claims t) (looped-at t) looped.Post
-looped-join-requires t c κs = tt
-
-looped-searched-requires : (t : ℕ) → looped-lts.Need-searched-requires (looped-claims t) (looped-at t) looped.Post
-looped-searched-requires t c κs =
-    let s = c .before .before .before .before .before .before .before .before .before .before .before .before .before .before .before .before .before .before .before .before .before .before .before .before .before .before .before .before .before .before .before in
-    let p = s .pre .1 .0 in
-    turns-laws.search-few (setting (s .args .n) (s .args .unroll)) (s .args .base) (p .event) (p .body) (s .args .state) (c .before .before .before .before .before .before .before .before .before .before .before .before .before .before .before .before .before .before .before .before .before .before .before .before .before .before .before .search .ensures (p .unroll) (p .event) (p .body) (p .is))
+looped-add-loop-answer : (t : ℕ) → looped-lts.Need-add-loop-answer (looped-claims t) (looped-at t) looped.Post
+looped-add-loop-answer t c =
+    let few = looped-few t (c .before .before .before .before .before .before .before .before .before .before .before .before) in
+    let w = rw (c .before .before .before .before .found .given .1) at few in
+    omega (arith, w)
 
 looped-loop-answer-requires : (t : ℕ) → looped-lts.Need-loop-answer-requires (looped-claims t) (looped-at t) looped.Post
 looped-loop-answer-requires t c κs = tt
 
-looped-same-length-5 : (t : ℕ) → looped-lts.Need-same-length-5 (looped-claims t) (looped-at t) looped.Post
-looped-same-length-5 t c = c .before .before .before .before .before .before .before .before .before .before .before .before .before .settle .kept .1 .1 .1 .1 .1 .0 ∙ c .before .before .before .before .before .before .before .before .before .before .before .before .before .before .before .before .before .before .before .before .unrolled .kept .1 .1 .1 .1 .1 .1 .0 ∙ c .before .before .before .before .before .before .before .before .before .before .before .before .before .before .before .before .before .before .before .before .before .before .before .before .before .before .before .before .before .search .kept .1 .1 .1 .1 .1 .0
+looped-same-length-2 : (t : ℕ) → looped-lts.Need-same-length-2 (looped-claims t) (looped-at t) looped.Post
+looped-same-length-2 t c = c .before .before .before .before .before .before .before .before .before .before .before .before .before .search .kept .1 .1 .1 .1 .1 .0
 
-looped-returns-5 : (t : ℕ) → looped-lts.Need-returns-5 (looped-claims t) (looped-at t) looped.Post
-looped-returns-5 t c =
+looped-returns-2 : (t : ℕ) → looped-lts.Need-returns-2 (looped-claims t) (looped-at t) looped.Post
+looped-returns-2 t c =
     λ u e b h.
-    let s = c .before .before .before .before .before .before .before .before .before .before .before .before .before .before .before .before .before .before .before .before .before .before .before .before .before .before .before .before .before .before .before .before .before in
+    let s = c .before .before .before .before .before .before .before .before .before .before .before .before .before .before .before .before .before in
     let g = setting (s .args .n) (s .args .unroll) in
     let U = rules.turns g u in
-    let f = looped-found t (c .before .before .before .before .before .before .before .before .before .before .before .before .before .before .before .before .before .before .before .before .before .before .before .before) u e b h in
-    let was : rules.Pass = record { next = c .before .before .before .before .before .before .before .before .before .before .before .before .before .before .before .before .before .before .before .before .unrolled .result .next; exit = c .before .before .before .before .before .before .before .before .before .before .before .before .before .before .before .before .before .before .before .before .unrolled .result .exit } in
-    let on = looped-turned t (c .before .before .before .before .before .before .before .before .before .before .before .before .before .before .before .before) u e b h in
-    let m = c .before .before .before .before .before .before .before .before .before .before .before .before .before .settle .ensures u e b h in
-    let x = c .before .before .before .before .before .before .before .leave .ensures (s .args .unroll) u e b h in
-    rw (c .loop-answer .ensures, c .before .before .join .ensures, c .before .searched .ensures, f .searched, looped-many t (c .before .before .before .before .before .before .before .before .before .before .before .before .before .before .before .before .before .before .before .before .before .before) u e b h) (on .on _ _ (turns-laws.loop-left g (s .args .base) e b U (s .args .state) (f .found) was m (c .before .before .before .before .before .before .before .before .before .enum-told3 .given .1) (answered-good _ x (c .before .before .before .before .before .enum-told4 .given .1))))
+    rw (c .loop-answer .ensures) (turns-laws.loop-rests g (s .args .base) e b U (s .args .state) (c .before .before .before .before .before .before .before .before .before .before .before .before .before .search .ensures u e b h) (c .before .before .before .before .before .found .given .0 .0) (c .before .before .before .before .before .found .given .1) (omega (arith, c .before .before .before .before .before .before .before .turns .ensures u e b h, c .before .before .before .if1 .taken)))
+
+looped-unrolls-requires : (t : ℕ) → looped-lts.Need-unrolls-requires (looped-claims t) (looped-at t) looped.Post
+looped-unrolls-requires t c κs = tt
+
+looped-onward-requires : (t : ℕ) → looped-lts.Need-onward-requires (looped-claims t) (looped-at t) looped.Post
+looped-onward-requires t c κs =
+    let s = c .before .before .before .before .before .before .before .before .before .before .before .before .before in
+    (omega (arith, s .pre .0), (s .pre .1 .0, (s .pre .1 .1 .0, (s .pre .1 .1 .1 .0, (omega (arith, s .pre .1 .1 .1 .1, c .before .before .before .before .before .before .before .before .before .search .kept .1 .1 .1 .1 .1 .0), rw (looped-came t (c .before .before)) (looped-few t (c .before .before .before .before .before .before .before .before .before)))))))
+
+looped-same-length-3 : (t : ℕ) → looped-lts.Need-same-length-3 (looped-claims t) (looped-at t) looped.Post
+looped-same-length-3 t c = c .before .before .onward .kept .1 .1 .1 .1 .1 .1 .1 .0 ∙ c .before .before .before .before .before .before .before .before .before .before .before .before .search .kept .1 .1 .1 .1 .1 .0
+
+looped-returns-3 : (t : ℕ) → looped-lts.Need-returns-3 (looped-claims t) (looped-at t) looped.Post
+looped-returns-3 t c =
+    λ u e b h.
+    let s = c .before .before .before .before .before .before .before .before .before .before .before .before .before .before .before .before in
+    let g = setting (s .args .n) (s .args .unroll) in
+    let U = rules.turns g u in
+    let q = looped-searched t (c .before .before .before .before .before .before .before .before .before .before .before .before) u e b h in
+    let f = turns-laws.finds (noted.search g (s .args .base) e b 100 0 (s .args .state) .answer) (q .out) (sym (c .before .before .before .before .before .before .before .before .before .refusal .ensures) ∙ c .before .before .before .before .before .before .before .enum-told .given .1) in
+    let came = looped-came t (c .before .before .before .before .before) in
+    let many = c .before .before .before .before .unrolls .ensures ∙ ap (λ x. stages.unrolls-by (c .before .before .before .before .before .before .turns .result) x) came ∙ ap (λ (k : ℕ). stages.unrolls-by k (c .before .before .before .before .before .before .before .before .before .before .before .before .search .result .found)) (c .before .before .before .before .before .before .turns .ensures u e b h) ∙ f .unrolls U in
+    turns-laws.loop-searched g (s .args .base) e b U (s .args .state) q f .on _ _ (c .before .before .onward .ensures u e b (f .found) h (came ∙ q .out ∙ ap outcomes.found-by (f .gives)) many)
 
 abbrev normalize-Inv-loop : normalize-lts.InvT-loop
 normalize-Inv-loop given place body base n unroll marks₀ state v left₀ x₀ joined₀ marks left x joined =
@@ -1288,6 +1233,112 @@ normalize-returns-5 t c =
     let none : l .left ≡ 0 = omega (arith, c .before .loop-test .left) in
     rw (c .good2 .ensures) (l .inv .1 .1 .1 b h .on _ _ (given-laws.no-value g (s .args .place) (s .args .base) b (s .args .t7) v vs (l .left) none (l .x) (l .joined) (l .marks)))
 
+onward-unrolled-requires : (t : ℕ) → onward-lts.Need-unrolled-requires (onward-claims t) (onward-at t) onward.Post
+onward-unrolled-requires t c κs =
+    let s = c .before .before .before in
+    (omega (arith, s .pre .0), (s .pre .1 .0, (s .pre .1 .1 .0, (s .pre .1 .1 .1 .0, s .pre .1 .1 .1 .1 .0))))
+
+onward-enum-known-turning : (t : ℕ) → onward-lts.Need-enum-known-turning (onward-claims t) (onward-at t) onward.Post
+onward-enum-known-turning t c = search needs
+
+onward-no-loop-requires : (t : ℕ) → onward-lts.Need-no-loop-requires (onward-claims t) (onward-at t) onward.Post
+onward-no-loop-requires t c κs = tt
+
+onward-same-length : (t : ℕ) → onward-lts.Need-same-length (onward-claims t) (onward-at t) onward.Post
+onward-same-length t c = c .before .before .before .before .before .before .unrolled .kept .1 .1 .1 .1 .1 .1 .0
+
+onward-returns : (t : ℕ) → onward-lts.Need-returns (onward-claims t) (onward-at t) onward.Post
+onward-returns t c =
+    λ u e b f h found many.
+    let s = c .before .before .before .before .before .before .before .before .before .before in
+    let g = setting (s .args .n) (s .args .unroll) in
+    let U = rules.turns g u in
+    rw (c .no-loop .ensures) (turns-laws.loop-unturned g (s .args .base) e b U (s .args .state) f (s .args .turns) many (c .before .before .before .before .before .before .unrolled .ensures u e b h) (c .before .before .turning .given .1))
+
+onward-enum-told : (t : ℕ) → onward-lts.Need-enum-told (onward-claims t) (onward-at t) onward.Post
+onward-enum-told t c = search needs
+
+onward-settle-requires : (t : ℕ) → onward-lts.Need-settle-requires (onward-claims t) (onward-at t) onward.Post
+onward-settle-requires t c κs =
+    let s = c .before .before .before .before .before .before .before .before .before .before in
+    (omega (arith, s .pre .0), (s .pre .1 .0, (s .pre .1 .1 .0, (s .pre .1 .1 .1 .0, omega (arith, s .pre .1 .1 .1 .1 .0, c .before .before .before .before .before .before .unrolled .kept .1 .1 .1 .1 .1 .1 .0)))))
+
+onward-enum-known-settling : (t : ℕ) → onward-lts.Need-enum-known-settling (onward-claims t) (onward-at t) onward.Post
+onward-enum-known-settling t c = search needs
+
+onward-no-loop-requires-2 : (t : ℕ) → onward-lts.Need-no-loop-requires-2 (onward-claims t) (onward-at t) onward.Post
+onward-no-loop-requires-2 t c κs = tt
+
+onward-same-length-2 : (t : ℕ) → onward-lts.Need-same-length-2 (onward-claims t) (onward-at t) onward.Post
+onward-same-length-2 t c = c .before .before .before .before .before .before .settle .kept .1 .1 .1 .1 .1 .0 ∙ c .before .before .before .before .before .before .before .before .before .before .before .before .before .unrolled .kept .1 .1 .1 .1 .1 .1 .0
+
+onward-returns-2 : (t : ℕ) → onward-lts.Need-returns-2 (onward-claims t) (onward-at t) onward.Post
+onward-returns-2 t c =
+    λ u e b f h found many.
+    let s = c .before .before .before .before .before .before .before .before .before .before .before .before .before .before .before .before .before in
+    let g = setting (s .args .n) (s .args .unroll) in
+    let U = rules.turns g u in
+    let was : rules.Pass = record { next = c .before .before .before .before .before .before .before .before .before .before .before .before .before .unrolled .result .next; exit = c .before .before .before .before .before .before .before .before .before .before .before .before .before .unrolled .result .exit } in
+    let on = turns-laws.loop-turned g (s .args .base) e b U (s .args .state) f (s .args .turns) many (c .before .before .before .before .before .before .before .before .before .before .before .before .before .unrolled .ensures u e b h) (c .before .before .before .before .before .before .before .before .before .enum-told .given .1) in
+    let m = c .before .before .before .before .before .before .settle .ensures u e b h in
+    rw (c .no-loop2 .ensures) (on .on _ _ (turns-laws.loop-unsettled g (s .args .base) e b U (s .args .state) f was m (c .before .before .settling .given .1)))
+
+onward-enum-told-2 : (t : ℕ) → onward-lts.Need-enum-told-2 (onward-claims t) (onward-at t) onward.Post
+onward-enum-told-2 t c = search needs
+
+onward-leave-requires : (t : ℕ) → onward-lts.Need-leave-requires (onward-claims t) (onward-at t) onward.Post
+onward-leave-requires t c κs =
+    let s = c .before .before .before .before .before .before .before .before .before .before .before .before .before .before .before .before in
+    (s .pre .1 .0, (s .pre .1 .1 .0, omega (arith, s .pre .1 .1 .1 .1 .0, s .good)))
+
+onward-enum-known-leaving : (t : ℕ) → onward-lts.Need-enum-known-leaving (onward-claims t) (onward-at t) onward.Post
+onward-enum-known-leaving t c = search needs
+
+onward-no-loop-requires-3 : (t : ℕ) → onward-lts.Need-no-loop-requires-3 (onward-claims t) (onward-at t) onward.Post
+onward-no-loop-requires-3 t c κs = tt
+
+onward-same-length-3 : (t : ℕ) → onward-lts.Need-same-length-3 (onward-claims t) (onward-at t) onward.Post
+onward-same-length-3 t c = c .before .before .before .before .before .before .before .before .before .before .settle .kept .1 .1 .1 .1 .1 .0 ∙ c .before .before .before .before .before .before .before .before .before .before .before .before .before .before .before .before .before .unrolled .kept .1 .1 .1 .1 .1 .1 .0
+
+onward-returns-3 : (t : ℕ) → onward-lts.Need-returns-3 (onward-claims t) (onward-at t) onward.Post
+onward-returns-3 t c =
+    λ u e b f h found many.
+    let s = c .before .before .before .before .before .before .before .before .before .before .before .before .before .before .before .before .before .before .before .before .before in
+    let g = setting (s .args .n) (s .args .unroll) in
+    let U = rules.turns g u in
+    let was : rules.Pass = record { next = c .before .before .before .before .before .before .before .before .before .before .before .before .before .before .before .before .before .unrolled .result .next; exit = c .before .before .before .before .before .before .before .before .before .before .before .before .before .before .before .before .before .unrolled .result .exit } in
+    let on = turns-laws.loop-turned g (s .args .base) e b U (s .args .state) f (s .args .turns) many (c .before .before .before .before .before .before .before .before .before .before .before .before .before .before .before .before .before .unrolled .ensures u e b h) (c .before .before .before .before .before .before .before .before .before .before .before .before .before .enum-told .given .1) in
+    let m = c .before .before .before .before .before .before .before .before .before .before .settle .ensures u e b h in
+    let x = c .before .before .before .before .leave .ensures (s .args .unroll) u e b h in
+    rw (c .no-loop3 .ensures) (on .on _ _ (turns-laws.loop-unleft g (s .args .base) e b U (s .args .state) f was m (c .before .before .before .before .before .before .enum-told2 .given .1) (answered-refused _ x (c .before .before .leaving .given .1))))
+
+onward-enum-told-3 : (t : ℕ) → onward-lts.Need-enum-told-3 (onward-claims t) (onward-at t) onward.Post
+onward-enum-told-3 t c = search needs
+
+onward-join-requires : (t : ℕ) → onward-lts.Need-join-requires (onward-claims t) (onward-at t) onward.Post
+onward-join-requires t c κs = tt
+
+onward-searched-requires : (t : ℕ) → onward-lts.Need-searched-requires (onward-claims t) (onward-at t) onward.Post
+onward-searched-requires t c κs = c .before .before .before .before .before .before .before .before .before .before .before .before .before .before .before .before .before .before .before .before .before .before .pre .1 .1 .1 .1 .1
+
+onward-loop-answer-requires : (t : ℕ) → onward-lts.Need-loop-answer-requires (onward-claims t) (onward-at t) onward.Post
+onward-loop-answer-requires t c κs = tt
+
+onward-same-length-4 : (t : ℕ) → onward-lts.Need-same-length-4 (onward-claims t) (onward-at t) onward.Post
+onward-same-length-4 t c = c .before .before .before .before .before .before .before .before .before .before .before .before .before .settle .kept .1 .1 .1 .1 .1 .0 ∙ c .before .before .before .before .before .before .before .before .before .before .before .before .before .before .before .before .before .before .before .before .unrolled .kept .1 .1 .1 .1 .1 .1 .0
+
+onward-returns-4 : (t : ℕ) → onward-lts.Need-returns-4 (onward-claims t) (onward-at t) onward.Post
+onward-returns-4 t c =
+    λ u e b f h found many.
+    let s = c .before .before .before .before .before .before .before .before .before .before .before .before .before .before .before .before .before .before .before .before .before .before .before .before in
+    let g = setting (s .args .n) (s .args .unroll) in
+    let U = rules.turns g u in
+    let was : rules.Pass = record { next = c .before .before .before .before .before .before .before .before .before .before .before .before .before .before .before .before .before .before .before .before .unrolled .result .next; exit = c .before .before .before .before .before .before .before .before .before .before .before .before .before .before .before .before .before .before .before .before .unrolled .result .exit } in
+    let on = turns-laws.loop-turned g (s .args .base) e b U (s .args .state) f (s .args .turns) many (c .before .before .before .before .before .before .before .before .before .before .before .before .before .before .before .before .before .before .before .before .unrolled .ensures u e b h) (c .before .before .before .before .before .before .before .before .before .before .before .before .before .before .before .before .enum-told .given .1) in
+    let m = c .before .before .before .before .before .before .before .before .before .before .before .before .before .settle .ensures u e b h in
+    let x = c .before .before .before .before .before .before .before .leave .ensures (s .args .unroll) u e b h in
+    rw (c .loop-answer .ensures, c .before .before .join .ensures, c .before .searched .ensures, found, turns-laws.searched-of f, many) (on .on _ _ (turns-laws.loop-left g (s .args .base) e b U (s .args .state) f was m (c .before .before .before .before .before .before .before .before .before .enum-told2 .given .1) (answered-good _ x (c .before .before .before .before .before .enum-told3 .given .1))))
+
 -- the parts of a loop that the words are
 pass-parts : (t : ℕ) (c : pass-lts.After-event-end (pass-claims t) (pass-at t) pass.Post) (u : Unroll) (e : Event) (b : Statements) → c .before .before .before .args .words .now ≡ code.statement (While u e b) → LoopCut (c .before .before .before .args .words .now) (c .event-end .result) e b
 pass-parts t c u e b h = loop-cut (c .before .before .before .args .words .now) u e b h (c .event-end .result) (c .event-end .ensures)
@@ -1421,92 +1472,97 @@ pass-returns-3 t c =
     record { out = c .went .ensures ∙ j .out; marks = j .marks }
 
 abbrev search-Inv-loop : search-lts.InvT-loop
-search-Inv-loop words base n unroll marks₀ s₀ i₀ marks s i =
+search-Inv-loop words base n unroll marks₀ s₀ exits₀ i₀ marks s exits i =
     (i ≤ 100) × ((length marks ≡ length marks₀) × ((u : Unroll) (e : Event) (b : Statements) → words ≡ code.statement (While u e b) →
-    Leads outcomes.found-by (noted.search (setting n unroll) base e b 100 0 s₀) marks₀ (noted.search (setting n unroll) base e b (100 - i) i s) marks))
+    Leads outcomes.sought-by (noted.sought (setting n unroll) base e b 100 0 (record { next = s₀; exit = exits₀ })) marks₀ (noted.sought (setting n unroll) base e b (100 - i) i (record { next = s; exit = exits })) marks))
 
 abbrev search-μ-loop : search-lts.MeasureT-loop
-search-μ-loop words base n unroll marks₀ s₀ i₀ marks s i = 100 - i
+search-μ-loop words base n unroll marks₀ s₀ exits₀ i₀ marks s exits i = 100 - i
+
+search-empty-requires : (t : ℕ) → search-lts.Need-empty-requires (search-claims t) (search-at t) search′.Post search-Inv-loop search-μ-loop
+search-empty-requires t c κs = tt
 
 search-loop-holds : (t : ℕ) → search-lts.Need-loop-holds (search-claims t) (search-at t) search′.Post search-Inv-loop search-μ-loop
 search-loop-holds t c = (omega arith, (refl, λ u e b h. leads-self))
 
 search-pass-requires : (t : ℕ) → search-lts.Need-pass-requires (search-claims t) (search-at t) search′.Post search-Inv-loop search-μ-loop
 search-pass-requires t c κs =
-    let s = c .before .before .before .before .before in
+    let s = c .before .before .before .before .before .before in
     (omega (arith, s .pre .0), (s .pre .1 .0, (s .pre .1 .1 .0, (s .pre .1 .1 .1 .0, omega (arith, s .pre .1 .1 .1 .1, c .before .before .loop .inv .1 .0)))))
 
 search-enum-known-verdict : (t : ℕ) → search-lts.Need-enum-known-verdict (search-claims t) (search-at t) search′.Post search-Inv-loop search-μ-loop
 search-enum-known-verdict t c = search needs
 
-search-enum-told : (t : ℕ) → search-lts.Need-enum-told (search-claims t) (search-at t) search′.Post search-Inv-loop search-μ-loop
-search-enum-told t c = search needs
-
-search-same-requires : (t : ℕ) → search-lts.Need-same-requires (search-claims t) (search-at t) search′.Post search-Inv-loop search-μ-loop
-search-same-requires t c κs = tt
-
-search-add-i : (t : ℕ) → search-lts.Need-add-i (search-claims t) (search-at t) search′.Post search-Inv-loop search-μ-loop
-search-add-i t c = let ne = c .before .before .before .before .before .before .before .before .before .if1 .left in omega (arith, c .before .before .before .before .before .before .before .before .before .before .loop .inv .0)
-
-search-loop-less : (t : ℕ) → search-lts.Need-loop-less (search-claims t) (search-at t) search′.Post search-Inv-loop search-μ-loop
-search-loop-less t c = let ne = c .before .before .before .before .before .before .before .before .before .if1 .left in omega (arith, c .before .before .before .before .before .before .before .before .before .before .loop .inv .0)
-
-search-loop-again : (t : ℕ) → search-lts.Need-loop-again (search-claims t) (search-at t) search′.Post search-Inv-loop search-μ-loop
-search-loop-again t c =
-    let ne = c .before .before .before .before .before .before .before .before .before .if1 .left in (
-      omega (arith, c .before .before .before .before .before .before .before .before .before .before .loop .inv .0),
-      (
-        c .before .before .before .before .before .before .before .pass .kept .1 .1 .1 .1 .1 .0 ∙ c .before .before .before .before .before .before .before .before .before .before .loop .inv .1 .0,
-        λ u e b h.
-            let s = c .before .before .before .before .before .before .before .before .before .before .before .before .before in
-            let l = c .before .before .before .before .before .before .before .before .before .before .loop in
-            let g = setting (s .args .n) (s .args .unroll) in
-            let q = c .before .before .before .before .before .before .before .pass .ensures u e b h in
-            let ne = c .before .before .before .before .before .before .before .before .before .if1 .left in
-            let more : 100 - l .i ≡ suc (100 - (l .i + 1)) = omega (arith, l .inv .0) in
-            leads-then (l .inv .1 .1 u e b h) (turns-laws.search-on g (s .args .base) e b (100 - l .i) (100 - (l .i + 1)) more (l .s) q (l .i) (c .before .before .before .enum-told .given .1) (sym (c .before .same .ensures) ∙ c .if2 .left)),
-      ),
-    )
+search-unsought-requires : (t : ℕ) → search-lts.Need-unsought-requires (search-claims t) (search-at t) search′.Post search-Inv-loop search-μ-loop
+search-unsought-requires t c κs = tt
 
 search-same-length : (t : ℕ) → search-lts.Need-same-length (search-claims t) (search-at t) search′.Post search-Inv-loop search-μ-loop
-search-same-length t c = c .before .loop .inv .1 .0
+search-same-length t c = c .before .before .before .before .before .before .pass .kept .1 .1 .1 .1 .1 .0 ∙ c .before .before .before .before .before .before .before .before .before .loop .inv .1 .0
 
 search-returns : (t : ℕ) → search-lts.Need-returns (search-claims t) (search-at t) search′.Post search-Inv-loop search-μ-loop
 search-returns t c =
     λ u e b h.
-    let s = c .before .before .before .before in
-    let l = c .before .loop in
+    let s = c .before .before .before .before .before .before .before .before .before .before .before .before .before in
+    let l = c .before .before .before .before .before .before .before .before .before .loop in
     let g = setting (s .args .n) (s .args .unroll) in
-    let none : 100 - l .i ≡ 0 = omega (arith, c .if1 .taken) in
-    l .inv .1 .1 u e b h .on _ _ (turns-laws.search-none g (s .args .base) e b (100 - l .i) none (l .i) (l .s) (l .marks))
+    let q = c .before .before .before .before .before .before .pass .ensures u e b h in
+    let more : 100 - l .i ≡ suc (100 - (l .i + 1)) = omega (arith, c .before .before .before .before .before .before .before .before .loop-test .taken) in
+    rw (← c .before .before .before .before .before .before .before .before .before .before .empty .ensures, c .unsought .ensures) (l .inv .1 .1 u e b h .on _ _ (turns-laws.search-refused g (s .args .base) e b (100 - l .i) (100 - (l .i + 1)) more (l .s) q (l .exits) (l .i) (c .before .before .verdict .given .1)))
+
+search-enum-told : (t : ℕ) → search-lts.Need-enum-told (search-claims t) (search-at t) search′.Post search-Inv-loop search-μ-loop
+search-enum-told t c = search needs
+
+search-join-requires : (t : ℕ) → search-lts.Need-join-requires (search-claims t) (search-at t) search′.Post search-Inv-loop search-μ-loop
+search-join-requires t c κs = tt
+
+search-same-requires : (t : ℕ) → search-lts.Need-same-requires (search-claims t) (search-at t) search′.Post search-Inv-loop search-μ-loop
+search-same-requires t c κs = tt
 
 search-same-length-2 : (t : ℕ) → search-lts.Need-same-length-2 (search-claims t) (search-at t) search′.Post search-Inv-loop search-μ-loop
-search-same-length-2 t c = c .before .before .before .before .before .pass .kept .1 .1 .1 .1 .1 .0 ∙ c .before .before .before .before .before .before .before .before .loop .inv .1 .0
+search-same-length-2 t c = c .before .before .before .before .before .before .before .before .before .pass .kept .1 .1 .1 .1 .1 .0 ∙ c .before .before .before .before .before .before .before .before .before .before .before .before .loop .inv .1 .0
 
 search-returns-2 : (t : ℕ) → search-lts.Need-returns-2 (search-claims t) (search-at t) search′.Post search-Inv-loop search-μ-loop
 search-returns-2 t c =
     λ u e b h.
-    let s = c .before .before .before .before .before .before .before .before .before .before .before in
-    let l = c .before .before .before .before .before .before .before .before .loop in
+    let s = c .before .before .before .before .before .before .before .before .before .before .before .before .before .before .before .before in
+    let l = c .before .before .before .before .before .before .before .before .before .before .before .before .loop in
     let g = setting (s .args .n) (s .args .unroll) in
-    let q = c .before .before .before .before .before .pass .ensures u e b h in
-    let ne = c .before .before .before .before .before .before .before .if1 .left in
-    let more : 100 - l .i ≡ suc (100 - (l .i + 1)) = omega (arith, l .inv .0) in
-    l .inv .1 .1 u e b h .on _ _ (turns-laws.search-refused g (s .args .base) e b (100 - l .i) (100 - (l .i + 1)) more (l .s) q (l .i) (c .before .verdict .given .1))
+    let q = c .before .before .before .before .before .before .before .before .before .pass .ensures u e b h in
+    let more : 100 - l .i ≡ suc (100 - (l .i + 1)) = omega (arith, c .before .before .before .before .before .before .before .before .before .before .before .loop-test .taken) in
+    rw (← c .before .before .before .before .before .before .before .before .before .before .before .before .before .empty .ensures, c .before .before .join .ensures) (l .inv .1 .1 u e b h .on _ _ (turns-laws.search-found g (s .args .base) e b (100 - l .i) (100 - (l .i + 1)) more (l .s) q (l .exits) (l .i) (c .before .before .before .before .before .enum-told .given .1) (sym (c .before .same .ensures) ∙ c .if1 .taken)))
+
+search-add-i : (t : ℕ) → search-lts.Need-add-i (search-claims t) (search-at t) search′.Post search-Inv-loop search-μ-loop
+search-add-i t c = omega (arith, c .before .before .before .before .before .before .before .before .before .before .before .loop-test .taken)
+
+search-loop-less : (t : ℕ) → search-lts.Need-loop-less (search-claims t) (search-at t) search′.Post search-Inv-loop search-μ-loop
+search-loop-less t c = omega (arith, c .before .before .before .before .before .before .before .before .before .before .before .loop-test .taken)
+
+search-loop-again : (t : ℕ) → search-lts.Need-loop-again (search-claims t) (search-at t) search′.Post search-Inv-loop search-μ-loop
+search-loop-again t c = (
+  omega (arith, c .before .before .before .before .before .before .before .before .before .before .before .loop-test .taken),
+  (
+    c .before .before .before .before .before .before .before .before .before .pass .kept .1 .1 .1 .1 .1 .0 ∙ c .before .before .before .before .before .before .before .before .before .before .before .before .loop .inv .1 .0,
+    λ u e b h.
+        let s = c .before .before .before .before .before .before .before .before .before .before .before .before .before .before .before .before in
+        let l = c .before .before .before .before .before .before .before .before .before .before .before .before .loop in
+        let g = setting (s .args .n) (s .args .unroll) in
+        let q = c .before .before .before .before .before .before .before .before .before .pass .ensures u e b h in
+        let more : 100 - l .i ≡ suc (100 - (l .i + 1)) = omega (arith, c .before .before .before .before .before .before .before .before .before .before .before .loop-test .taken) in
+        rw (c .before .before .join .ensures) (leads-then (l .inv .1 .1 u e b h) (turns-laws.search-on g (s .args .base) e b (100 - l .i) (100 - (l .i + 1)) more (l .s) q (l .exits) (l .i) (c .before .before .before .before .before .enum-told .given .1) (sym (c .before .same .ensures) ∙ c .if1 .left))),
+  ),
+)
 
 search-same-length-3 : (t : ℕ) → search-lts.Need-same-length-3 (search-claims t) (search-at t) search′.Post search-Inv-loop search-μ-loop
-search-same-length-3 t c = c .before .before .before .before .before .before .before .pass .kept .1 .1 .1 .1 .1 .0 ∙ c .before .before .before .before .before .before .before .before .before .before .loop .inv .1 .0
+search-same-length-3 t c = c .before .loop .inv .1 .0
 
 search-returns-3 : (t : ℕ) → search-lts.Need-returns-3 (search-claims t) (search-at t) search′.Post search-Inv-loop search-μ-loop
 search-returns-3 t c =
     λ u e b h.
-    let s = c .before .before .before .before .before .before .before .before .before .before .before .before .before in
-    let l = c .before .before .before .before .before .before .before .before .before .before .loop in
+    let s = c .before .before .before .before .before in
+    let l = c .before .loop in
     let g = setting (s .args .n) (s .args .unroll) in
-    let q = c .before .before .before .before .before .before .before .pass .ensures u e b h in
-    let ne = c .before .before .before .before .before .before .before .before .before .if1 .left in
-    let more : 100 - l .i ≡ suc (100 - (l .i + 1)) = omega (arith, l .inv .0) in
-    l .inv .1 .1 u e b h .on _ _ (turns-laws.search-found g (s .args .base) e b (100 - l .i) (100 - (l .i + 1)) more (l .s) q (l .i) (c .before .before .before .enum-told .given .1) (sym (c .before .same .ensures) ∙ c .if2 .taken))
+    let none : 100 - l .i ≡ 0 = omega (arith, c .loop-test .left) in
+    rw (← c .before .before .empty .ensures) (l .inv .1 .1 u e b h .on _ _ (turns-laws.search-none g (s .args .base) e b (100 - l .i) none (l .i) (record { next = l .s; exit = l .exits }) (l .marks)))
 
 settle-growing-requires : (t : ℕ) → settle-lts.Need-growing-requires (settle-claims t) (settle-at t) settle.Post
 settle-growing-requires t c κs =
@@ -1827,15 +1883,16 @@ unrolled-returns-2 t c =
     let z = turns-laws.unrolled-none g (s .args .base) e b (l .left) none (record { next = l .s; exit = l .exits }) (l .marks) in
     rw (← c .before .before .before .empty .ensures, c .went .ensures) (l .inv .1 .1 u e b h .on _ _ z)
 
-pub +branch+growing+list+looped+normalize+pass+search+settle+statement+unrolled-spec :
+pub +branch+growing+list+looped+normalize+onward+pass+search+settle+statement+unrolled-spec :
     {M : Type 1} → statement M
-+branch+growing+list+looped+normalize+pass+search+settle+statement+unrolled-spec =
++branch+growing+list+looped+normalize+onward+pass+search+settle+statement+unrolled-spec =
     close
     μ-branch
     μ-growing
     μ-list
     μ-looped
     μ-normalize
+    μ-onward
     μ-pass
     μ-search
     μ-settle
@@ -1965,30 +2022,15 @@ pub +branch+growing+list+looped+normalize+pass+search+settle+statement+unrolled-
     (looped-returns t)
     (looped-enum-told t)
     (looped-turns-requires t)
-    (looped-unrolls-requires t)
-    (looped-unrolled-requires t)
-    (looped-enum-known-turning t)
-    (looped-no-loop-requires-2 t)
+    (looped-enum-known-found t)
+    (looped-add-loop-answer t)
+    (looped-loop-answer-requires t)
     (looped-same-length-2 t)
     (looped-returns-2 t)
-    (looped-enum-told-2 t)
-    (looped-settle-requires t)
-    (looped-enum-known-settling t)
-    (looped-no-loop-requires-3 t)
+    (looped-unrolls-requires t)
+    (looped-onward-requires t)
     (looped-same-length-3 t)
-    (looped-returns-3 t)
-    (looped-enum-told-3 t)
-    (looped-leave-requires t)
-    (looped-enum-known-leaving t)
-    (looped-no-loop-requires-4 t)
-    (looped-same-length-4 t)
-    (looped-returns-4 t)
-    (looped-enum-told-4 t)
-    (looped-join-requires t)
-    (looped-searched-requires t)
-    (looped-loop-answer-requires t)
-    (looped-same-length-5 t)
-    (looped-returns-5 t))
+    (looped-returns-3 t))
     (λ t. normalize-lts.spec (normalize-claims t) (normalize-at t) normalize.Post normalize-Inv-loop normalize-μ-loop
     (normalize-list-requires t)
     (normalize-same-length t)
@@ -2028,6 +2070,30 @@ pub +branch+growing+list+looped+normalize+pass+search+settle+statement+unrolled-
     (normalize-good-requires t)
     (normalize-same-length-3 t)
     (normalize-returns-5 t))
+    (λ t. onward-lts.spec (onward-claims t) (onward-at t) onward.Post
+    (onward-unrolled-requires t)
+    (onward-enum-known-turning t)
+    (onward-no-loop-requires t)
+    (onward-same-length t)
+    (onward-returns t)
+    (onward-enum-told t)
+    (onward-settle-requires t)
+    (onward-enum-known-settling t)
+    (onward-no-loop-requires-2 t)
+    (onward-same-length-2 t)
+    (onward-returns-2 t)
+    (onward-enum-told-2 t)
+    (onward-leave-requires t)
+    (onward-enum-known-leaving t)
+    (onward-no-loop-requires-3 t)
+    (onward-same-length-3 t)
+    (onward-returns-3 t)
+    (onward-enum-told-3 t)
+    (onward-join-requires t)
+    (onward-searched-requires t)
+    (onward-loop-answer-requires t)
+    (onward-same-length-4 t)
+    (onward-returns-4 t))
     (λ t. pass-lts.spec (pass-claims t) (pass-at t) pass.Post
     (pass-event-end-requires t)
     (pass-sub-sides t)
@@ -2056,18 +2122,21 @@ pub +branch+growing+list+looped+normalize+pass+search+settle+statement+unrolled-
     (pass-same-length-2 t)
     (pass-returns-3 t))
     (λ t. search-lts.spec (search-claims t) (search-at t) search′.Post search-Inv-loop search-μ-loop
+    (search-empty-requires t)
     (search-loop-holds t)
     (search-pass-requires t)
     (search-enum-known-verdict t)
+    (search-unsought-requires t)
+    (search-same-length t)
+    (search-returns t)
     (search-enum-told t)
+    (search-join-requires t)
     (search-same-requires t)
+    (search-same-length-2 t)
+    (search-returns-2 t)
     (search-add-i t)
     (search-loop-less t)
     (search-loop-again t)
-    (search-same-length t)
-    (search-returns t)
-    (search-same-length-2 t)
-    (search-returns-2 t)
     (search-same-length-3 t)
     (search-returns-3 t))
     (λ t. settle-lts.spec (settle-claims t) (settle-at t) settle.Post
