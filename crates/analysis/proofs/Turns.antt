@@ -62,18 +62,18 @@ few-searched (Refuses number place) h e = rw e (omega arith)
 pub search-few : (g : Setting) (at : ℕ) (e : Event) (b : Statements) (s : State) {o : Found} {m m₁ : List ℕ} → Says found-by (noted.search g at e b 100 0 s) o m m₁ → searched-by o ≤ 100
 search-few g at e b s q = few-searched (noted.search g at e b 100 0 s .answer) (λ j h. omega (arith, search-below (g .n) (noted.pass-by g at e b) (noted.exit-by g at e b) 100 0 s j h)) (q .out)
 
--- the search was not refused, and what it found leads to the code's counts
+-- the search was not refused, and what it found leads to the code's count of unrolled passes
 pub record Finds (a : Answer rules.Found) (o : Found) : Type 0 where
   pub found : rules.Found
   pub gives : a ≡ Gives found
-  pub searched : searched-by o ≡ rules.search-passes found
   pub unrolls : (u : ℕ) → unrolls-by u o ≡ rules.unroll-passes u found
 
 pub finds : (a : Answer rules.Found) {o : Found} → o ≡ found-by a → refusal-of o ≡ Good → Finds a o
-finds (Gives (rules.AtPass j)) e v = record { found = rules.AtPass j; gives = refl; searched = rw e; unrolls = λ u. rw e }
-finds (Gives rules.Nowhere) e v = record { found = rules.Nowhere; gives = refl; searched = rw e; unrolls = λ u. rw e }
+finds (Gives (rules.AtPass j)) e v = record { found = rules.AtPass j; gives = refl; unrolls = λ u. rw e }
+finds (Gives rules.Nowhere) e v = record { found = rules.Nowhere; gives = refl; unrolls = λ u. rw e }
 finds (Refuses number place) e v = absurd (let w = rw e at v in let z : _≡_ {A = ℕ} 0 1 = cc in omega arith)
 
+-- and to its count of search passes
 pub searched-of : (f : rules.Found) → searched-by (found-by (Gives f)) ≡ rules.search-passes f
 searched-of (rules.AtPass i) = refl
 searched-of rules.Nowhere = refl

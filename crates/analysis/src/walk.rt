@@ -210,7 +210,7 @@ fn pass(words: &[u64], base: usize, n: usize, unroll: usize, state: State, marks
     outcomes::went(next, no)
 }
 
-// The search stops at the first pass whose new state equals the old. It joins the exits on its way.
+// The search leaves its loop with the index of the first pass whose new state equals the old. It joins the exits on its way.
 fn search(
     words: &[u64],
     base: usize,
@@ -228,7 +228,10 @@ fn search(
     let mut s = state;
     let mut exits = states::empty();
     let mut i: usize = 0;
-    while i < 100 {
+    let found = loop {
+        if i == 100 {
+            break Found::Nowhere;
+        }
         let p = pass(words, base, n, unroll, s, marks);
         let verdict = p.verdict;
         if let Verdict::Refused(number, place) = verdict {
@@ -238,17 +241,13 @@ fn search(
         let exit = p.exit;
         exits = states::join(exits, exit, n);
         if states::same(s, next, n) {
-            return Sought {
-                found: Found::At(i),
-                turned: s,
-                exits,
-            };
+            break Found::At(i);
         }
         s = next;
         i += 1;
-    }
+    };
     Sought {
-        found: Found::Nowhere,
+        found,
         turned: s,
         exits,
     }

@@ -62,6 +62,9 @@ use Rattle.analysis.proofs.walk.+branch+growing+list+looped+normalize+o
 use Rattle.analysis.proofs.walk.normalize.Reads as normalize
 use Rattle.analysis.proofs.walk.normalize.Kinds as normalize-kinds
 use Rattle.analysis.proofs.walk.+branch+growing+list+looped+normalize+onward+pass+search+settle+statement+unrolled.Lts-normalize as normalize-lts
+use Rattle.analysis.proofs.walk.onward.Reads as onward
+use Rattle.analysis.proofs.walk.onward.Kinds as onward-kinds
+use Rattle.analysis.proofs.walk.+branch+growing+list+looped+normalize+onward+pass+search+settle+statement+unrolled.Lts-onward as onward-lts
 use Rattle.analysis.proofs.walk.pass.Reads as pass
 use Rattle.analysis.proofs.walk.pass.Kinds as pass-kinds
 use Rattle.analysis.proofs.walk.+branch+growing+list+looped+normalize+onward+pass+search+settle+statement+unrolled.Lts-pass as pass-lts
@@ -89,6 +92,7 @@ use Rattle.analysis.proofs.outcomes.stopped.Reads as stopped-reads
 use Rattle.analysis.proofs.outcomes.turns.Reads as turns-reads
 use Rattle.analysis.proofs.outcomes.unrolls.Reads as unrolls-reads
 use Rattle.analysis.proofs.outcomes.unsettled.Reads as unsettled-reads
+use Rattle.analysis.proofs.outcomes.unsought.Reads as unsought-reads
 use Rattle.analysis.proofs.outcomes.values.Reads as values-reads
 use Rattle.analysis.proofs.outcomes.went.Reads as went-reads
 use Rattle.analysis.proofs.plain.change.Reads as change-reads
@@ -97,10 +101,6 @@ use Rattle.analysis.proofs.walk.leave.Reads as leave-reads
 use Rattle.analysis.proofs.walk.mark.Reads as mark-reads
 use Rattle.analysis.proofs.walk.+branch+growing+list+looped+normalize+onward+pass+search+settle+statement+unrolled.{statement}
 use Rattle.analysis.proofs.walk.+branch+growing+list+looped+normalize+onward+pass+search+settle+statement+unrolled.Tie.{close}
-use Rattle.analysis.proofs.walk.onward.Reads as onward
-use Rattle.analysis.proofs.walk.onward.Kinds as onward-kinds
-use Rattle.analysis.proofs.walk.+branch+growing+list+looped+normalize+onward+pass+search+settle+statement+unrolled.Lts-onward as onward-lts
-use Rattle.analysis.proofs.outcomes.unsought.Reads as unsought-reads
 
 abbrev μ-branch : Measures 2 branch-kinds.ps ℕ
 μ-branch κs a = 8 * length (a .0 .now) + 6
@@ -1506,7 +1506,8 @@ search-returns t c =
     let l = c .before .before .before .before .before .before .before .before .before .loop in
     let g = setting (s .args .n) (s .args .unroll) in
     let q = c .before .before .before .before .before .before .pass .ensures u e b h in
-    let more : 100 - l .i ≡ suc (100 - (l .i + 1)) = omega (arith, c .before .before .before .before .before .before .before .before .loop-test .taken) in
+    let ne = c .before .before .before .before .before .before .before .before .if1 .left in
+    let more : 100 - l .i ≡ suc (100 - (l .i + 1)) = omega (arith, l .inv .0) in
     rw (← c .before .before .before .before .before .before .before .before .before .before .empty .ensures, c .unsought .ensures) (l .inv .1 .1 u e b h .on _ _ (turns-laws.search-refused g (s .args .base) e b (100 - l .i) (100 - (l .i + 1)) more (l .s) q (l .exits) (l .i) (c .before .before .verdict .given .1)))
 
 search-enum-told : (t : ℕ) → search-lts.Need-enum-told (search-claims t) (search-at t) search′.Post search-Inv-loop search-μ-loop
@@ -1518,28 +1519,15 @@ search-join-requires t c κs = tt
 search-same-requires : (t : ℕ) → search-lts.Need-same-requires (search-claims t) (search-at t) search′.Post search-Inv-loop search-μ-loop
 search-same-requires t c κs = tt
 
-search-same-length-2 : (t : ℕ) → search-lts.Need-same-length-2 (search-claims t) (search-at t) search′.Post search-Inv-loop search-μ-loop
-search-same-length-2 t c = c .before .before .before .before .before .before .before .before .before .pass .kept .1 .1 .1 .1 .1 .0 ∙ c .before .before .before .before .before .before .before .before .before .before .before .before .loop .inv .1 .0
-
-search-returns-2 : (t : ℕ) → search-lts.Need-returns-2 (search-claims t) (search-at t) search′.Post search-Inv-loop search-μ-loop
-search-returns-2 t c =
-    λ u e b h.
-    let s = c .before .before .before .before .before .before .before .before .before .before .before .before .before .before .before .before in
-    let l = c .before .before .before .before .before .before .before .before .before .before .before .before .loop in
-    let g = setting (s .args .n) (s .args .unroll) in
-    let q = c .before .before .before .before .before .before .before .before .before .pass .ensures u e b h in
-    let more : 100 - l .i ≡ suc (100 - (l .i + 1)) = omega (arith, c .before .before .before .before .before .before .before .before .before .before .before .loop-test .taken) in
-    rw (← c .before .before .before .before .before .before .before .before .before .before .before .before .before .empty .ensures, c .before .before .join .ensures) (l .inv .1 .1 u e b h .on _ _ (turns-laws.search-found g (s .args .base) e b (100 - l .i) (100 - (l .i + 1)) more (l .s) q (l .exits) (l .i) (c .before .before .before .before .before .enum-told .given .1) (sym (c .before .same .ensures) ∙ c .if1 .taken)))
-
 search-add-i : (t : ℕ) → search-lts.Need-add-i (search-claims t) (search-at t) search′.Post search-Inv-loop search-μ-loop
-search-add-i t c = omega (arith, c .before .before .before .before .before .before .before .before .before .before .before .loop-test .taken)
+search-add-i t c = let ne = c .before .before .before .before .before .before .before .before .before .before .before .if1 .left in omega (arith, c .before .before .before .before .before .before .before .before .before .before .before .before .loop .inv .0)
 
 search-loop-less : (t : ℕ) → search-lts.Need-loop-less (search-claims t) (search-at t) search′.Post search-Inv-loop search-μ-loop
-search-loop-less t c = omega (arith, c .before .before .before .before .before .before .before .before .before .before .before .loop-test .taken)
+search-loop-less t c = let ne = c .before .before .before .before .before .before .before .before .before .before .before .if1 .left in omega (arith, c .before .before .before .before .before .before .before .before .before .before .before .before .loop .inv .0)
 
 search-loop-again : (t : ℕ) → search-lts.Need-loop-again (search-claims t) (search-at t) search′.Post search-Inv-loop search-μ-loop
 search-loop-again t c = (
-  omega (arith, c .before .before .before .before .before .before .before .before .before .before .before .loop-test .taken),
+  let ne = c .before .before .before .before .before .before .before .before .before .before .before .if1 .left in omega (arith, c .before .before .before .before .before .before .before .before .before .before .before .before .loop .inv .0),
   (
     c .before .before .before .before .before .before .before .before .before .pass .kept .1 .1 .1 .1 .1 .0 ∙ c .before .before .before .before .before .before .before .before .before .before .before .before .loop .inv .1 .0,
     λ u e b h.
@@ -1547,22 +1535,37 @@ search-loop-again t c = (
         let l = c .before .before .before .before .before .before .before .before .before .before .before .before .loop in
         let g = setting (s .args .n) (s .args .unroll) in
         let q = c .before .before .before .before .before .before .before .before .before .pass .ensures u e b h in
-        let more : 100 - l .i ≡ suc (100 - (l .i + 1)) = omega (arith, c .before .before .before .before .before .before .before .before .before .before .before .loop-test .taken) in
-        rw (c .before .before .join .ensures) (leads-then (l .inv .1 .1 u e b h) (turns-laws.search-on g (s .args .base) e b (100 - l .i) (100 - (l .i + 1)) more (l .s) q (l .exits) (l .i) (c .before .before .before .before .before .enum-told .given .1) (sym (c .before .same .ensures) ∙ c .if1 .left))),
+        let ne = c .before .before .before .before .before .before .before .before .before .before .before .if1 .left in
+        let more : 100 - l .i ≡ suc (100 - (l .i + 1)) = omega (arith, l .inv .0) in
+        rw (c .before .before .join .ensures) (leads-then (l .inv .1 .1 u e b h) (turns-laws.search-on g (s .args .base) e b (100 - l .i) (100 - (l .i + 1)) more (l .s) q (l .exits) (l .i) (c .before .before .before .before .before .enum-told .given .1) (sym (c .before .same .ensures) ∙ c .if2 .left))),
   ),
 )
 
-search-same-length-3 : (t : ℕ) → search-lts.Need-same-length-3 (search-claims t) (search-at t) search′.Post search-Inv-loop search-μ-loop
-search-same-length-3 t c = c .before .loop .inv .1 .0
+search-same-length-2 : (t : ℕ) → search-lts.Need-same-length-2 (search-claims t) (search-at t) search′.Post search-Inv-loop search-μ-loop
+search-same-length-2 t c = c .before .loop .inv .1 .0
 
-search-returns-3 : (t : ℕ) → search-lts.Need-returns-3 (search-claims t) (search-at t) search′.Post search-Inv-loop search-μ-loop
-search-returns-3 t c =
+search-returns-2 : (t : ℕ) → search-lts.Need-returns-2 (search-claims t) (search-at t) search′.Post search-Inv-loop search-μ-loop
+search-returns-2 t c =
     λ u e b h.
     let s = c .before .before .before .before .before in
     let l = c .before .loop in
     let g = setting (s .args .n) (s .args .unroll) in
-    let none : 100 - l .i ≡ 0 = omega (arith, c .loop-test .left) in
+    let none : 100 - l .i ≡ 0 = omega (arith, c .if1 .taken) in
     rw (← c .before .before .empty .ensures) (l .inv .1 .1 u e b h .on _ _ (turns-laws.search-none g (s .args .base) e b (100 - l .i) none (l .i) (record { next = l .s; exit = l .exits }) (l .marks)))
+
+search-same-length-3 : (t : ℕ) → search-lts.Need-same-length-3 (search-claims t) (search-at t) search′.Post search-Inv-loop search-μ-loop
+search-same-length-3 t c = c .before .before .before .before .before .before .before .before .before .pass .kept .1 .1 .1 .1 .1 .0 ∙ c .before .before .before .before .before .before .before .before .before .before .before .before .loop .inv .1 .0
+
+search-returns-3 : (t : ℕ) → search-lts.Need-returns-3 (search-claims t) (search-at t) search′.Post search-Inv-loop search-μ-loop
+search-returns-3 t c =
+    λ u e b h.
+    let s = c .before .before .before .before .before .before .before .before .before .before .before .before .before .before .before .before in
+    let l = c .before .before .before .before .before .before .before .before .before .before .before .before .loop in
+    let g = setting (s .args .n) (s .args .unroll) in
+    let q = c .before .before .before .before .before .before .before .before .before .pass .ensures u e b h in
+    let ne = c .before .before .before .before .before .before .before .before .before .before .before .if1 .left in
+    let more : 100 - l .i ≡ suc (100 - (l .i + 1)) = omega (arith, l .inv .0) in
+    rw (← c .before .before .before .before .before .before .before .before .before .before .before .before .before .empty .ensures, c .before .before .join .ensures) (l .inv .1 .1 u e b h .on _ _ (turns-laws.search-found g (s .args .base) e b (100 - l .i) (100 - (l .i + 1)) more (l .s) q (l .exits) (l .i) (c .before .before .before .before .before .enum-told .given .1) (sym (c .before .same .ensures) ∙ c .if2 .taken)))
 
 settle-growing-requires : (t : ℕ) → settle-lts.Need-growing-requires (settle-claims t) (settle-at t) settle.Post
 settle-growing-requires t c κs =
@@ -2132,11 +2135,11 @@ pub +branch+growing+list+looped+normalize+onward+pass+search+settle+statement+un
     (search-enum-told t)
     (search-join-requires t)
     (search-same-requires t)
-    (search-same-length-2 t)
-    (search-returns-2 t)
     (search-add-i t)
     (search-loop-less t)
     (search-loop-again t)
+    (search-same-length-2 t)
+    (search-returns-2 t)
     (search-same-length-3 t)
     (search-returns-3 t))
     (λ t. settle-lts.spec (settle-claims t) (settle-at t) settle.Post
