@@ -16,7 +16,7 @@ abbrev pub sided : Answer rules.Sides → Sides
 sided (Gives t) = record { verdict = Good; yes = t .yes; no = t .no }
 sided (Refuses number place) = record { verdict = Refused number place; yes = states.empty; no = states.empty }
 
--- what is kept, and what is left by a removal: a refusal, 8, leaves Empty of both
+-- what is kept, and what a removal leaves; 8 leaves Empty of both
 abbrev pub parted : ℕ → Range → Bounded → Parted
 parted at kept (Is others) = record { verdict = Good; kept = kept; others = others }
 parted at kept Over = record { verdict = Refused 8 at; kept = Empty; others = Empty }
