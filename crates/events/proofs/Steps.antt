@@ -22,9 +22,10 @@ use Rattle.paper.specs.Code as code
 use Rattle.paper.specs.Rules as rules
 use Rattle.words.specs.Parts.{Begins, conjunction, DrawIs, EventIs, EventsWithin}
 use Rattle.words.proofs.Parts.{begins-whole, begins-at, begins-head, begins-tail, part-is}
-use Rattle.words.proofs.Nodes.{draw-of, draw-size, draw-is, draw-words, draw-some, event-some, event-ends, SetAt, ComplementAt, IntersectionAt, NextEventAt, next-event-here, no-event-here}
+use Rattle.words.proofs.Nodes.{draw-of, draw-size, draw-is, draw-words, draw-some, event-some, event-ends, SetAt, set-here, ComplementAt, IntersectionAt, NextEventAt, next-event-here, no-event-here}
 use Rattle.words.proofs.Bounds.{draw-bounds, next-event-bounds}
-use Rattle.events.specs.Sided.{sided}
+use Rattle.events.specs.Sided.{parted, sided}
+use Rattle.events.specs.declared.Parted.{Parted}
 use Rattle.events.specs.declared.Sides.{Sides}
 
 -- ---- draws, of which the words are one whole
@@ -94,12 +95,25 @@ turned-sided (Refuses k p) = refl
 
 -- ---- the parts of an event that the words are
 
+-- what the code takes from the words of a set test: its values, and what they keep and leave of its variable's range in a state
+abbrev pub set-values : List ℕ → List ℕ
+set-values ws = take (length ws - 3) (drop 3 ws)
+
+abbrev set-kept : State → List ℕ → Range
+set-kept s ws = ranges.retain (states.get s (getD ws 1 0)) (set-values ws)
+
+abbrev set-removed : State → List ℕ → Bounded
+set-removed s ws = ranges.remove (states.get s (getD ws 1 0)) (set-values ws)
+
+abbrev pub set-parted : ℕ → State → List ℕ → Parted
+set-parted at s ws = parted at (set-kept s ws) (set-removed s ws)
+
 module _ {ws : List ℕ} where
   pub event-filled : {n : ℕ} → EventIs n ws → 0 < length ws
   event-filled p = omega (arith, ap length (p .is), event-some (p .tree))
 
   module _ {e : Event} (h : ws ≡ code.event e) where
-    pub set-part : (x : SetAt ws 0 e) → take (length ws - 3) (drop 3 ws) ≡ x .values
+    set-part : (x : SetAt ws 0 e) → set-values ws ≡ x .values
     set-part x = part-is (length ws - 3) (x .values-are) (omega (arith, ap length h, x .size))
 
     pub complement-part : (x : ComplementAt ws 0 e) → take (length ws - 1) (drop 1 ws) ≡ code.event (x .event)
@@ -120,22 +134,21 @@ module _ (s : State) (v : ℕ) (some : s .live ≡ true) {r : Range} where
 
 module _ (at : ℕ) (s : State) (v : ℕ) (values : List ℕ) where
   -- an empty state twice
-  pub cut-none : (b : Bounded) → s .live ≡ false → record { verdict = Good; yes = s; no = s } ≡ sided (rules.cut at s v values b)
+  cut-none : (b : Bounded) → s .live ≡ false → record { verdict = Good; yes = s; no = s } ≡ sided (rules.cut at s v values b)
   cut-none (Is r) h = rw h
   cut-none Over h = rw h
 
-  -- 8 at the event
-  pub cut-over : {b : Bounded} {none : State} → b ≡ Over → s .live ≡ true → none ≡ states.empty → record { verdict = Refused 8 at; yes = none; no = none } ≡ sided (rules.cut at s v values b)
-  cut-over p h q = rw (p, h, q)
-
-  -- what is kept and what is not
-  pub cut-both : {b : Bounded} {r : Range} {yes no : State} → b ≡ Is r → yes ≡ states.put s v (ranges.retain (states.get s v) values) → no ≡ states.put s v r → record { verdict = Good; yes = yes; no = no } ≡ sided (rules.cut at s v values b)
-  cut-both p y n = rw (p, y, n)
+  -- the state with what is kept and with what is left; of a refusal, 8 at the event, nothing is
+  cut-some : (b : Bounded) {p : Parted} {yes no : State} → s .live ≡ true → p ≡ parted at (ranges.retain (states.get s v) values) b
+      → yes ≡ states.put s v (p .kept) → no ≡ states.put s v (p .others)
+      → record { verdict = p .verdict; yes = yes; no = no } ≡ sided (rules.cut at s v values b)
+  cut-some (Is r) h e y n = rw (y, n, e)
+  cut-some Over h e y n = rw (y, n, e, h)
 
 -- ---- events
 
 module _ (g : rules.Setting) (at : ℕ) {e : Event} (s : State) where
-  pub event-set : {v : ℕ} {values : List ℕ} → e ≡ InSet v values → rules.event g at e s ≡ rules.cut at s v values (ranges.remove (states.get s v) values)
+  event-set : {v : ℕ} {values : List ℕ} → e ≡ InSet v values → rules.event g at e s ≡ rules.cut at s v values (ranges.remove (states.get s v) values)
   unfolding rules.event
   event-set p = rw p
 
@@ -150,6 +163,22 @@ module _ (g : rules.Setting) (at : ℕ) {e : Event} (s : State) where
   event-intersection p =
       let two : at + 1 + 1 ≡ at + 2 = omega arith in
       rw (p, two)
+
+-- kind 1, by its words: of an empty state, and of one that is not by what is left of its variable's range
+module _ (g : rules.Setting) (at : ℕ) (e : Event) (s : State) {ws : List ℕ} (h : ws ≡ code.event e) (k : getD ws 0 0 ≡ 1) where
+  set-rule : rules.cut at s (getD ws 1 0) (set-values ws) (set-removed s ws) ≡ rules.event g at e s
+  set-rule =
+      let x = set-here e (begins-whole h) k in
+      rw (set-part h x, x .var-is) (sym (event-set g at s (x .same)))
+
+  pub set-none : s .live ≡ false → record { verdict = Good; yes = s; no = s } ≡ sided (rules.event g at e s)
+  set-none dead = cut-none at s (getD ws 1 0) (set-values ws) (set-removed s ws) dead ∙ ap sided set-rule
+
+  pub set-some : {p : Parted} {yes no : State} → s .live ≡ true → p ≡ set-parted at s ws
+      → yes ≡ states.put s (getD ws 1 0) (p .kept)
+      → no ≡ states.put s (getD ws 1 0) (p .others)
+      → record { verdict = p .verdict; yes = yes; no = no } ≡ sided (rules.event g at e s)
+  set-some live q y n = cut-some at s (getD ws 1 0) (set-values ws) (set-removed s ws) live q y n ∙ ap sided set-rule
 
 -- kinds 2 and 3
 pub event-same : (g : rules.Setting) (at : ℕ) (e : Event) (s : State) {ws : List ℕ} → ws ≡ code.event e

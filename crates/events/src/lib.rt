@@ -2,6 +2,7 @@
 pub mod draws;
 pub mod event;
 
+use ranges::Range;
 use states::State;
 use states::Verdict;
 
@@ -10,4 +11,11 @@ pub struct Sides {
     pub verdict: Verdict,
     pub yes: State,
     pub no: State,
+}
+
+// What retain and remove leave of a range. Those of a refusal are Empty.
+pub struct Parted {
+    pub verdict: Verdict,
+    pub kept: Range,
+    pub others: Range,
 }
