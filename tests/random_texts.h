@@ -66,7 +66,7 @@ static void put_plain_word(Word word) {
 
 // A number: mostly small, else one near a limit.
 static Word number(void) {
-    static const Word edges[] = {255, 256, 257, 4096, 5000, 10001, 65536, 2147483648, 4294967294, 4294967295, 4294967296, ~0ul};
+    static const Word edges[] = {255, 256, 257, 10001, 65536, 2147483648, 4294967294, 4294967295, 4294967296, ~0ul};
     return one_in(30) ? edges[below(sizeof edges / sizeof *edges)] : below(6);
 }
 
@@ -84,9 +84,10 @@ static void close_text(void) {
 // Shapes of statements, events and draws. A digit, or a to f for 10 to 15, is that word; v is a variable,
 // n a number, w one near 4,096, u an unroll, ? 0 or 1, S a set, D a draw, E an event, L a list of statements,
 // P one of plain statements, O loops within loops, R a row of nots; the last two may pass their limits.
-// The first PLAIN statements and events are plain: they have no list and no event in them.
+// The first PLAIN statements and events are plain: they have no list and no event in them. The last statement
+// normalizes two variables, and draws them first: many values of both would take the program too long.
 enum { PLAIN = 4 };
-static const char *const statements[] = {"1v?D", "2v?1nvn", "2v?000n", "3vn", "4ELL", "4ELL", "500EL", "51uEL", "6", "71vP", "72vvP", "70L"};
+static const char *const statements[] = {"1v?D", "2v?1nvn", "2v?000n", "3vn", "4ELL", "4ELL", "500EL", "51uEL", "6", "70L", "71vP", "7031005u11027201P"};
 static const char *const events[] = {"1vS", "1vS", "2vv", "3nD", "4E", "50", "51E", "52EE"};
 static const char *const draws[] = {"1n1", "2", "3v", "5n", "5n", "6n", "cnn", "cnn", "4v", "7v", "8n", "9", "a", "bv"};
 static const char *const odd_draws[] = {"1nn", "d", "e", "f"};
