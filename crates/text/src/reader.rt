@@ -11,13 +11,29 @@ ghost use Rattle.text.specs.Answers as answers;
 ghost use Rattle.text.specs.Machine as machine;
 ghost use Rattle.text.specs.Says.{Says};
 
+// The digits come first: most bytes of a text are digits.
 fn class_of(b: u8) -> Class
     ensures { λ r. ⌜ r ≡ machine.class-of b ⌝ }
 {
-    if b == 0x20 {
-        return Class::Blank;
+    if 0x30 < b {
+        if b < 0x3A {
+            return Class::Digit;
+        }
+        if b == 0x5B {
+            return Class::Open;
+        }
+        if b == 0x5D {
+            return Class::Close;
+        }
+        return Class::Other;
     }
-    if b == 0x09 {
+    if b == 0x2C {
+        return Class::Comma;
+    }
+    if b == 0x30 {
+        return Class::Zero;
+    }
+    if b == 0x20 {
         return Class::Blank;
     }
     if b == 0x0A {
@@ -26,25 +42,10 @@ fn class_of(b: u8) -> Class
     if b == 0x0D {
         return Class::Blank;
     }
-    if b == 0x30 {
-        return Class::Zero;
+    if b == 0x09 {
+        return Class::Blank;
     }
-    if b == 0x5B {
-        return Class::Open;
-    }
-    if b == 0x5D {
-        return Class::Close;
-    }
-    if b == 0x2C {
-        return Class::Comma;
-    }
-    if b < 0x31 {
-        return Class::Other;
-    }
-    if 0x39 < b {
-        return Class::Other;
-    }
-    Class::Digit
+    Class::Other
 }
 
 // The value of a digit.
