@@ -1,5 +1,5 @@
 -- `keep` meets its contract: the marks are put only where the line was.
-use Rattle.woolquern.proofs.Kept.{found-refused, found-more, refused-by, kept-by, beside-short, beside-wrote}
+use Rattle.woolquern.proofs.Kept.{found-refused, found-more, refused-by, kept-by, beside-by}
 use Rattle.text.proofs.Drafts.{put-front}
 use lib.ListN.{length, take}
 use native.Mathlib.Omega.{arith}
@@ -23,7 +23,7 @@ returns-3 : tie.Need-returns-3
 returns-3 c =
     let s = c .before .before .before .before .before .before .before .before .before .before .before .before in
     let marks = s .args .marks .now in
-    (kept-by (s .args .found) (s .args .n) (s .args .count) marks marks (s .args .out .now) (c .before .before .before .before .line .result) (c .before .before .before .before .before .before .before .enum-told .given .1) (c .before .before .before .before .before .before .if1 .left) (c .before .before .before .before .line .ensures .0) (beside-short (c .before .before .before .before .line .result) (take (s .args .count) (s .args .found .marks)) marks (c .enum-told2 .given .1)), c .before .before .before .before .line .ensures .1)
+    (kept-by (s .args .found) (s .args .n) (s .args .count) marks marks (s .args .out .now) (c .before .before .before .before .line .result) (c .before .before .before .before .before .before .before .enum-told .given .1) (c .before .before .before .before .before .before .if1 .left) (c .before .before .before .before .line .ensures .0) (beside-by (c .before .before .before .before .line .result) (take (s .args .count) (s .args .found .marks)) marks (c .enum-told2 .given .1)), c .before .before .before .before .line .ensures .1)
 
 slice-aggregate-put-bytes : tie.Need-slice-aggregate-put-bytes
 slice-aggregate-put-bytes c = sym (length-take-le _ _ (c .before .before .before .before .before .before .before .before .before .before .before .before .before .before .before .pre))
@@ -40,7 +40,7 @@ returns-4 c =
     let bytes = take (s .args .count) (s .args .found .marks) in
     let room = c .before .before .before .before .before .before .before .before .before .before .before .before .if1 .left in (
       kept-by (s .args .found) (s .args .n) (s .args .count) marks _ (s .args .out .now) (c .before .before .before .before .before .before .before .before .before .before .line .result) (c .before .before .before .before .before .before .before .before .before .before .before .before .before .enum-told .given .1) room (c .before .before .before .before .before .before .before .before .before .before .line .ensures .0)
-          (put-front bytes (omega (arith, length-take-le (s .args .count) (s .args .found .marks) (s .pre), room)) (c .before .before .put-bytes .ensures) ∙ beside-wrote (c .before .before .before .before .before .before .before .before .before .before .line .result) bytes marks (c .before .before .before .before .before .before .enum-told3 .given .1)),
+          (put-front bytes (omega (arith, length-take-le (s .args .count) (s .args .found .marks) (s .pre), room)) (c .before .before .put-bytes .ensures) ∙ beside-by (c .before .before .before .before .before .before .before .before .before .before .line .result) bytes marks (c .before .before .before .before .before .before .enum-told3 .given .1)),
       c .before .before .before .before .before .before .before .before .before .before .line .ensures .1,
     )
 
