@@ -98,8 +98,7 @@ module _ (found : Marked) (n count room : ℕ) where
 pub kept-by : (found : Marked) (n count : ℕ) (marks after out : List ℕ) (r : Printed) {rest : List ℕ} → found .answer .verdict ≡ verdict.Good → count ≤ length marks →
     leaves (of-printed r) rest ≡ printed (line n (of-answer (found .answer))) out → after ≡ beside (of-printed r) (take count (found .marks)) marks →
     left (of-printed r) after rest ≡ marking (found-in found n count (length marks)) marks out
-kept-by found n count marks after out r {rest} e h p q =
-    rw (← found-good found n count (length marks) e h, ← (rw e at p), q) refl
+kept-by found n count marks after out r e h p q = rw (← found-good found n count (length marks) e h, ← (rw e at p), q) refl
 
 -- whatever the answer, a line is printed
 pub prints-marked : (a : Answer Entered) (marks out : List ℕ) → Prints out (marking a marks out .printing)
