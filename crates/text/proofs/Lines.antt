@@ -4,10 +4,9 @@ use mathlib.Core.Bool.{Bool, true, false, cond, _&&_, false≢true}
 use mathlib.Core.List.{List, [], _∷_, _++_, map, append-assoc, head-eq-of-cons-eq, tail-eq-of-cons-eq}
 use Prim.Native.Nat.{ℕ, _+_, _*_, _-_, _≤_, _<_}
 use native.Mathlib.Omega.{arith}
-use native.Mathlib.Decide.{decLe}
 use lib.Dec.{leb, eqb}
 use lib.ListN.{getD, take, List·getD-map}
-use lib.Seq.{getD-take, ext-getD}
+use lib.Seq.{getD-take}
 use borrow.Author.Tests.{le-leb, eqb-true}
 use Rattle.ranges.specs.declared.End.{End}
 use Rattle.ranges.specs.declared.End.the-variants.{At, Open}

@@ -15,7 +15,7 @@ use Rattle.text.specs.declared.Found.{Found}
 use Rattle.text.specs.declared.Found.the-variants.{Holds, Breaks}
 use Rattle.text.specs.declared.Class.the-variants.{Digit, Other}
 use Rattle.text.specs.declared.Mode.{Mode}
-use Rattle.text.specs.declared.Mode.the-variants.{Start, Opened, Digits, Ended, Parted, Closed}
+use Rattle.text.specs.declared.Mode.the-variants.{Start}
 use Rattle.text.specs.declared.Move.{Move}
 use Rattle.text.specs.declared.Move.the-variants.{Stop, To, Push}
 use Rattle.text.specs.Machine.{class-of, step, Contents, holds, breaks, later, push, whole, at-end, follow, contents, numbers-by, numbers, stored, found, put, FitsIn, settle, outcome}

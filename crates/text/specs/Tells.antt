@@ -5,7 +5,6 @@ use Prim.Native.Nat.{ℕ}
 use lib.ListN.{take}
 use Rattle.ranges.specs.declared.Range.{Range}
 use Rattle.states.specs.declared.State.{State}
-use Rattle.states.specs.States as states
 use Rattle.states.specs.Answers.{Answer, Gives, Refuses}
 
 -- A refusal, that the state is empty, or its ranges.

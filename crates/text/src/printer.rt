@@ -14,7 +14,7 @@ ghost use Rattle.text.specs.Draft.{Put, item};
 ghost use Rattle.text.specs.Line as lines;
 
 // Puts bytes into the draft from `at` on, and answers the place after them, as all functions here do; their callers keep the room.
-fn put_bytes(draft: &mut [u8], at: usize, bytes: &[u8]) -> usize
+pub fn put_bytes(draft: &mut [u8], at: usize, bytes: &[u8]) -> usize
     requires { ⌜ at + length (now bytes) ≤ length (now draft) ⌝ }
     ensures { λ r. ⌜ Put (now (draft .entry)) at (now (bytes .entry)) r (now (draft .exit)) ⌝ }
 {

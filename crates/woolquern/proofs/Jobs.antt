@@ -9,7 +9,6 @@ use lib.ListN.{length, take, drop, length-append, replicate, length-replicate}
 use lib.Seq.{take-append-seam}
 use borrow.Author.Tests.{lt-ltb, le-ltb, ltb-true, ltb-false}
 use Rattle.states.specs.declared.State.{State}
-use Rattle.states.specs.declared.Answer as code
 use Rattle.states.specs.States.{zeros}
 use Rattle.states.specs.Answers.{Answer, Gives, Refuses, and-then, answered}
 use Rattle.paper.specs.Tree.{Statements}
@@ -35,115 +34,125 @@ use Rattle.woolquern.specs.Job.{words-in, words-of, line-of, written}
 
 -- ---- the words of a text
 
--- what a reading into so many words tells of the text: the words read, or, where there is room for all, the refusal
-abbrev Heard : ℕ → Answer ℕ → List ℕ → Answer (List ℕ) → Type 0
-Heard room (Gives count) buffer a = (Gives (take count buffer) ≡ a) × (count ≤ length buffer)
-Heard room (Refuses number place) buffer a = 8192 ≤ room → Refuses number place ≡ a
+-- an answer's words stand in front of a buffer
+pub record WordsRead (count : ℕ) (buffer : List ℕ) (a : Answer (List ℕ)) : Type 0 where
+  pub words : Gives (take count buffer) ≡ a
+  pub room : count ≤ length buffer
 
-hears : (text words : List ℕ) → Heard (length words) (outcome text words .answer) (outcome text words .buffer) (words-of text)
-hears text words = go (ltb 65536 (length text)) (contents text Start)
+-- so do words that were put there
+put-read : (ws before : List ℕ) → WordsRead (length ws) (ws ++ drop (length ws) before) (Gives ws)
+put-read ws before = record { words = ap Gives (take-append-seam ws (drop (length ws) before)); room = omega (arith, length-append ws (drop (length ws) before)) }
+
+-- what a reading tells of the text: the words read, or the refusal
+abbrev Heard : Answer ℕ → List ℕ → Answer (List ℕ) → Type 0
+Heard (Gives count) buffer a = WordsRead count buffer a
+Heard (Refuses number place) buffer a = Refuses number place ≡ a
+
+hears : (text words : List ℕ) → 8192 ≤ length words → Heard (outcome text words .answer) (outcome text words .buffer) (words-of text)
+hears text words room = go (ltb 65536 (length text)) (contents text Start)
   where
     fits : (ws : List ℕ) (b c : Bool) → ltb 8192 (length ws) ≡ b → ltb (length words) (length ws) ≡ c →
-        Heard (length words) (cond b (texts.refused 2 0 words) (cond c (texts.refused 2 0 words) (texts.done ws words)) .answer) (cond b (texts.refused 2 0 words) (cond c (texts.refused 2 0 words) (texts.done ws words)) .buffer) (cond b (Refuses 2 0) (Gives ws))
-    fits ws true c p q = λ _. refl
-    fits ws false true p q = λ h. absurd (omega (arith, ltb-false 8192 (length ws) p, ltb-true (length words) (length ws) q))
-    fits ws false false p q = (ap Gives (take-append-seam ws (drop (length ws) words)), omega (arith, length-append ws (drop (length ws) words)))
+        Heard (cond b (texts.refused 2 0 words) (cond c (texts.refused 2 0 words) (texts.done ws words)) .answer) (cond b (texts.refused 2 0 words) (cond c (texts.refused 2 0 words) (texts.done ws words)) .buffer) (cond b (Refuses 2 0) (Gives ws))
+    fits ws true c p q = refl
+    fits ws false true p q = absurd (omega (arith, ltb-false 8192 (length ws) p, ltb-true (length words) (length ws) q))
+    fits ws false false p q = put-read ws words
 
-    go : (b : Bool) (x : Contents) → Heard (length words) (cond b (texts.refused 2 0 words) (settle words x) .answer) (cond b (texts.refused 2 0 words) (settle words x) .buffer) (cond b (Refuses 2 0) (words-in x))
-    go true x = λ _. refl
-    go false (breaks place) = λ _. refl
+    go : (b : Bool) (x : Contents) → Heard (cond b (texts.refused 2 0 words) (settle words x) .answer) (cond b (texts.refused 2 0 words) (settle words x) .buffer) (cond b (Refuses 2 0) (words-in x))
+    go true x = refl
+    go false (breaks place) = refl
     go false (holds ws) = fits ws (ltb 8192 (length ws)) (ltb (length words) (length ws)) refl refl
 
--- words for every text that is read
-pub full : 8192 ≤ length (replicate {A = ℕ} 8192 0)
-full = omega (arith, length-replicate {A = ℕ} 8192 0)
-
 -- what `read` answers, and leaves in the words
-module _ (text words : List ℕ) (r : Text-reading) (after : List ℕ) (e : leaves (of-reading r) after ≡ outcome text words) where
-  left : {q : Text-reading} → r ≡ q → Heard (length words) (of-reading q) after (words-of text)
+module _ (text : List ℕ) {r : Text-reading} {after : List ℕ} (e : leaves (of-reading r) after ≡ outcome text (replicate 8192 0)) where
+  left : {q : Text-reading} → r ≡ q → Heard (of-reading q) after (words-of text)
   left is =
-      subst (λ (q : Text-reading). Heard (length words) (of-reading q) after (words-of text)) is
-      (subst (λ (o : texts.Outcome). Heard (length words) (o .answer) (o .buffer) (words-of text)) (sym e) (hears text words))
+      subst (λ (q : Text-reading). Heard (of-reading q) after (words-of text)) is
+      (subst (λ (o : texts.Outcome). Heard (o .answer) (o .buffer) (words-of text)) (sym e) (hears text (replicate 8192 0) (omega (arith, length-replicate {A = ℕ} 8192 0))))
 
-  pub read-refused : {number place : ℕ} → r ≡ reading.Refused number place → 8192 ≤ length words → Refuses number place ≡ words-of text
+  pub read-refused : {number place : ℕ} → r ≡ reading.Refused number place → Refuses number place ≡ words-of text
   read-refused is = left is
 
-  pub read-words : {count : ℕ} → r ≡ reading.Read count → Gives (take count after) ≡ words-of text
-  read-words is = left is .0
-
-  pub read-room : {count : ℕ} → r ≡ reading.Read count → count ≤ length after
-  read-room is = left is .1
+  pub read-words : {count : ℕ} → r ≡ reading.Read count → WordsRead count after (words-of text)
+  read-words is = left is
 
 -- what `pass` answers of a text that is not too long
-module _ (text : List ℕ) (short : length text ≤ 65536) where
+module _ (text : List ℕ) (short : length text ≤ 65536) {r : Found} (e : r ≡ found (contents text Start)) where
   of-contents : words-in (contents text Start) ≡ words-of text
   of-contents = sym (rw (le-ltb 65536 (length text) short) refl)
 
-  pub text-breaks : {place : ℕ} (r : Found) → r ≡ found (contents text Start) → r ≡ Breaks place → Refuses 1 place ≡ words-of text
-  text-breaks {place} r e is = go (contents text Start) (sym is ∙ e) ∙ of-contents
+  pub text-breaks : {place : ℕ} → r ≡ Breaks place → Refuses 1 place ≡ words-of text
+  text-breaks {place} is = go (contents text Start) (sym is ∙ e) ∙ of-contents
     where
       go : (x : Contents) → Breaks place ≡ found x → Refuses 1 place ≡ words-in x
       go (holds ws) q = let z : _≡_ {A = ℕ} 0 1 = cc in absurd (omega arith)
       go (breaks k) q = cc
 
-  pub text-many : {count : ℕ} (r : Found) → r ≡ found (contents text Start) → r ≡ Holds count → 8192 < count → Refuses 2 0 ≡ words-of text
-  text-many {count} r e is h = go (contents text Start) (sym is ∙ e) ∙ of-contents
+  pub text-many : {count : ℕ} → r ≡ Holds count → 8192 < count → Refuses 2 0 ≡ words-of text
+  text-many {count} is h = go (contents text Start) (sym is ∙ e) ∙ of-contents
     where
       go : (x : Contents) → Holds count ≡ found x → Refuses 2 0 ≡ words-in x
       go (holds ws) q = let same : count ≡ length ws = cc in rw (lt-ltb 8192 (length ws) (omega arith)) refl
       go (breaks k) q = let z : _≡_ {A = ℕ} 0 1 = cc in absurd (omega arith)
 
-  -- the numbers, where the words had room for them
-  pub record Passed (count : ℕ) (after : List ℕ) : Type 0 where
-    pub words : Gives (take count after) ≡ words-of text
-    pub room : count ≤ length after
-
-  pub text-words : {count : ℕ} (r : Found) (before after : List ℕ) → r ≡ found (contents text Start) → r ≡ Holds count → count ≤ 8192 → count ≤ length before →
-      after ≡ stored 0 (numbers text Start) before → Passed count after
-  text-words {count} r before after e is few fits h = go (contents text Start) (sym is ∙ e) of-contents (λ f. h ∙ stored-put text before f)
+  -- into so many words, where there is room for all
+  pub text-words : {count : ℕ} (room : ℕ) {after : List ℕ} → r ≡ Holds count → room ≤ 8192 → count ≤ room → after ≡ stored 0 (numbers text Start) (replicate room 0) → WordsRead count after (words-of text)
+  text-words {count} room {after} is few fits h = subst (WordsRead count after) of-contents (go (contents text Start) (sym is ∙ e) (λ f. h ∙ stored-put text (replicate room 0) f))
     where
-      go : (x : Contents) → Holds count ≡ found x → words-in x ≡ words-of text → (FitsIn x (length before) → after ≡ put x before) → Passed count after
-      go (holds ws) q w f =
+      go : (x : Contents) → Holds count ≡ found x → (FitsIn x (length (replicate {A = ℕ} room 0)) → after ≡ put x (replicate room 0)) → WordsRead count after (words-in x)
+      go (holds ws) q f =
           let same : count ≡ length ws = cc in
-          let is-put : after ≡ ws ++ drop (length ws) before = f (omega arith) in
-          record {
-            words = ap Gives (ap (λ (k : ℕ). take k after) same ∙ ap (take (length ws)) is-put ∙ take-append-seam ws (drop (length ws) before)) ∙ sym (rw (le-ltb 8192 (length ws) (omega arith)) refl) ∙ w;
-            room = let l : length after ≡ length (ws ++ drop (length ws) before) = ap length is-put in omega (arith, same, l, length-append ws (drop (length ws) before));
-          }
-      go (breaks k) q w f = let z : _≡_ {A = ℕ} 0 1 = cc in absurd (omega arith)
+          rw (same, f (omega (arith, length-replicate {A = ℕ} room 0)), le-ltb 8192 (length ws) (omega arith)) (put-read ws (replicate room 0))
+      go (breaks k) q f = let z : _≡_ {A = ℕ} 0 1 = cc in absurd (omega arith)
 
 pub text-over : (text : List ℕ) → 65536 < length text → Refuses 2 0 ≡ words-of text
 text-over text h = sym (rw (lt-ltb 65536 (length text) h) refl)
 
 -- ---- their answer
 
+module _ {A : Type 0} (ws : List ℕ) (given : ℕ → Answer A) where
+  -- what is given for as many variables as the words use, once they are checked with 64
+  abbrev of-words : Answer A
+  of-words = cond (ltb 8192 (length ws)) (Refuses 4 0) (as-answer (reader.program ws 64) (λ p. given (used p)))
+
+  pub words-long : 8192 < length ws → Refuses 4 0 ≡ of-words
+  words-long h = rw (lt-ltb 8192 (length ws) h) refl
+
+  pub words-bad : {number place : ℕ} → length ws ≤ 8192 → Refused number place ≡ checked (reader.program ws 64) → Refuses number place ≡ of-words
+  unfolding checked
+  words-bad {number} {place} h e = rw (le-ltb 8192 (length ws) h) (go (reader.program ws 64) e)
+    where
+      go : (r : Reading Statements) → Refused number place ≡ checked r → Refuses number place ≡ as-answer r (λ p. given (used p))
+      go (Read p i) q = let z : _≡_ {A = ℕ} 0 1 = cc in absurd (omega arith)
+      go (Bad k at) q = cc
+
+  pub words-sound : {n : ℕ} → length ws ≤ 8192 → Sound n ≡ checked (reader.program ws 64) → given n ≡ of-words
+  unfolding checked
+  words-sound {n} h e = rw (le-ltb 8192 (length ws) h) (go (reader.program ws 64) e)
+    where
+      go : (r : Reading Statements) → Sound n ≡ checked r → given n ≡ as-answer r (λ p. given (used p))
+      go (Bad k at) q = let z : _≡_ {A = ℕ} 0 1 = cc in absurd (omega arith)
+      go (Read p i) q = let same : n ≡ used p = cc in ap given same
+
+-- the answer for n variables
+abbrev ran-with : List ℕ → ℕ → Answer Outcome
+ran-with ws n = and-then (analysed ws n zeros 0) (λ s. Gives (record { n = n; state = s }))
+
+is-ran : (ws : List ℕ) → of-words ws (ran-with ws) ≡ ran ws
+unfolding ran
+is-ran ws = go (ltb 8192 (length ws)) (as-answer (reader.program ws 64) (λ p. ran-with ws (used p)))
+  where
+    go : (b : Bool) (a : Answer Outcome) → cond b (Refuses 4 0) a ≡ elim b [ true ↦ Refuses 4 0 | false ↦ a ]
+    go true a = refl
+    go false a = refl
+
 pub ran-long : (ws : List ℕ) → 8192 < length ws → ran ws ≡ Refuses 4 0
-unfolding ran
-ran-long ws h = rw (lt-ltb 8192 (length ws) h, ran)
-
--- the answer for words that were read
-abbrev pub ran-of : List ℕ → Reading Statements → Answer Outcome
-ran-of ws r = as-answer r (λ p. and-then (analysed ws (used p) zeros 0) (λ s. Gives (record { n = used p; state = s })))
-
-ran-short : (ws : List ℕ) → length ws ≤ 8192 → ran ws ≡ ran-of ws (reader.program ws 64)
-unfolding ran
-ran-short ws h = rw (le-ltb 8192 (length ws) h, ran)
+ran-long ws h = sym (words-long ws (ran-with ws) h ∙ is-ran ws)
 
 pub ran-bad : (ws : List ℕ) {number place : ℕ} → length ws ≤ 8192 → Refused number place ≡ checked (reader.program ws 64) → ran ws ≡ Refuses number place
-unfolding checked
-ran-bad ws {number} {place} h e = ran-short ws h ∙ go (reader.program ws 64) e
-  where
-    go : (r : Reading Statements) → Refused number place ≡ checked r → ran-of ws r ≡ Refuses number place
-    go (Read p i) q = let z : _≡_ {A = ℕ} 0 1 = cc in absurd (omega arith)
-    go (Bad k at) q = cc
+ran-bad ws h e = sym (words-bad ws (ran-with ws) h e ∙ is-ran ws)
 
 pub ran-sound : (ws : List ℕ) {n : ℕ} → length ws ≤ 8192 → Sound n ≡ checked (reader.program ws 64) → ran ws ≡ and-then (analysed ws n zeros 0) (λ s. Gives (record { n = n; state = s }))
-unfolding checked
-ran-sound ws {n} h e = ran-short ws h ∙ go (reader.program ws 64) e
-  where
-    go : (r : Reading Statements) → Sound n ≡ checked r → ran-of ws r ≡ and-then (analysed ws n zeros 0) (λ s. Gives (record { n = n; state = s }))
-    go (Bad k at) q = let z : _≡_ {A = ℕ} 0 1 = cc in absurd (omega arith)
-    go (Read p i) q = let same : n ≡ used p = cc in rw same refl
+ran-sound ws h e = sym (words-sound ws (ran-with ws) h e ∙ is-ran ws)
 
 pub ran-line : (ws : List ℕ) {n : ℕ} → length ws ≤ 8192 → Sound n ≡ checked (reader.program ws 64) → line n (of-answer (answered (analysed ws n zeros 0))) ≡ line-of (ran ws)
 ran-line ws {n} h e = go (analysed ws n zeros 0) ∙ ap line-of (sym (ran-sound ws h e))

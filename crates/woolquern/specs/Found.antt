@@ -22,18 +22,21 @@ abbrev pub loop-by : Verdict → Loop → Answer Loop
 loop-by Good l = Gives l
 loop-by (Refused number place) l = Refuses number place
 
+-- all that the code has beside the verdict
+abbrev pub all-of : LoopAnswer → ℕ → Loop
+all-of found n = record {
+  n = n;
+  looped = record {
+    exits = found .exits;
+    turned = found .turned;
+    settled = found .settled;
+    searched = found .searched;
+    unrolls = found .unrolls;
+    joined = found .joined;
+    widened = found .widened;
+  };
+}
+
 -- the same of the verdict and all else that the code has side by side
 abbrev pub loop-of : LoopAnswer → ℕ → Answer Loop
-loop-of found n =
-    loop-by (found .verdict) (record {
-      n = n;
-      looped = record {
-        exits = found .exits;
-        turned = found .turned;
-        settled = found .settled;
-        searched = found .searched;
-        unrolls = found .unrolls;
-        joined = found .joined;
-        widened = found .widened;
-      };
-    })
+loop-of found n = loop-by (found .verdict) (all-of found n)

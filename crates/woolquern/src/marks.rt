@@ -9,22 +9,8 @@ ghost use Prim.Native.Nat.{_≤_, _<_};
 ghost use lib.ListN.{length};
 ghost use Rattle.text.specs.Answers.{of-printed};
 ghost use Rattle.text.specs.declared.Printed.the-variants.{Short};
-ghost use Rattle.text.specs.Draft.{Put};
 ghost use Rattle.woolquern.specs.Job as job;
 ghost use Rattle.woolquern.specs.Found.{found-in};
-
-// Puts bytes in front of a buffer.
-fn put(bytes: &[u8], buffer: &mut [u8]) -> usize
-    requires { ⌜ length (now bytes) ≤ length (now buffer) ⌝ }
-    ensures { λ r. ⌜ Put (now (buffer .entry)) 0 (now (bytes .entry)) r (now (buffer .exit)) ⌝ }
-{
-    let mut i = 0;
-    while i < bytes.len() {
-        buffer[i] = bytes[i];
-        i += 1;
-    }
-    i
-}
 
 // The line of what was found for so many words, and the marks beside it.
 fn keep(found: Marked, n: usize, count: usize, marks: &mut [u8], out: &mut [u8]) -> Printed
@@ -45,7 +31,7 @@ fn keep(found: Marked, n: usize, count: usize, marks: &mut [u8], out: &mut [u8])
         return printed;
     }
     let entered = found.marks;
-    put(&entered[..count], marks);
+    text::put_bytes(marks, 0, &entered[..count]);
     printed
 }
 

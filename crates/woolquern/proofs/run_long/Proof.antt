@@ -5,7 +5,6 @@ use Rattle.text.specs.Line.{printed}
 use Rattle.paper.specs.Answers.{ran}
 use Rattle.states.specs.Answers.{Answer, and-then}
 use lib.Seq.{length-take-le}
-use lib.ListN.{replicate, length-replicate}
 use native.Mathlib.Omega.{arith}
 use Prim.Native.Nat.{ℕ}
 use mathlib.Core.List.{List}
@@ -15,19 +14,35 @@ use Rattle.woolquern.proofs.run_long.Statement.{statement}
 use Rattle.woolquern.proofs.run_long.Tie as tie
 
 returns : tie.Need-returns
-returns c = (c .before .before .refuse2 .ensures .0 ∙ ap (λ (x : Answer (List ℕ)). printed (line-of (and-then x ran)) (c .before .before .before .before .before .before .before .before .before .before .before .before .before .args .out .now)) (text-many (c .before .before .before .before .before .before .before .before .before .before .before .before .before .args .text .now) (c .before .before .before .before .before .before .before .before .before .before .before .before .before .pre) (c .before .before .before .before .before .before .before .before .before .pass .result) (c .before .before .before .before .before .before .before .before .before .pass .ensures .0) (c .before .before .before .before .before .before .count .given .1) (c .before .before .before .before .if1 .taken)), c .before .before .refuse2 .ensures .1)
+returns c =
+    let s = c .before .before .before .before .before .before .before .before .before .before .before .before .before in
+    let e = text-many (s .args .text .now) (s .pre) (c .before .before .before .before .before .before .before .before .before .pass .ensures .0) (c .before .before .before .before .before .before .count .given .1) (c .before .before .before .before .if1 .taken) in
+    (c .before .before .refuse2 .ensures .0 ∙ ap (λ (x : Answer (List ℕ)). printed (line-of (and-then x ran)) (s .args .out .now)) e, c .before .before .refuse2 .ensures .1)
 
 array-share-prefix-words : tie.Need-array-share-prefix-words
-array-share-prefix-words c = text-words (c .before .before .before .before .before .before .before .before .before .args .text .now) (c .before .before .before .before .before .before .before .before .before .pre) (c .before .before .before .before .before .pass .result) (replicate 8192 0) (c .before .before .before .before .before .pass .last .1 .0) (c .before .before .before .before .before .pass .ensures .0) (c .before .before .count .given .1) (omega (arith, c .if1 .left)) (omega (arith, length-replicate {A = ℕ} 8192 0, c .if1 .left)) (c .before .before .before .before .before .pass .ensures .1) .room
+array-share-prefix-words c =
+    let s = c .before .before .before .before .before .before .before .before .before in
+    let p = c .before .before .before .before .before .pass in
+    text-words (s .args .text .now) (s .pre) (p .ensures .0) 8192 (c .before .before .count .given .1) (omega arith) (c .if1 .left) (p .ensures .1) .room
 
 slice-aggregate-run-words : tie.Need-slice-aggregate-run-words
-slice-aggregate-run-words c = sym (length-take-le _ _ (text-words (c .before .before .before .before .before .before .before .before .before .before .args .text .now) (c .before .before .before .before .before .before .before .before .before .before .pre) (c .before .before .before .before .before .before .pass .result) (replicate 8192 0) (c .before .before .before .before .before .before .pass .last .1 .0) (c .before .before .before .before .before .before .pass .ensures .0) (c .before .before .before .count .given .1) (omega (arith, c .before .if1 .left)) (omega (arith, length-replicate {A = ℕ} 8192 0, c .before .if1 .left)) (c .before .before .before .before .before .before .pass .ensures .1) .room))
+slice-aggregate-run-words c =
+    let s = c .before .before .before .before .before .before .before .before .before .before in
+    let p = c .before .before .before .before .before .before .pass in
+    sym (length-take-le _ _ (text-words (s .args .text .now) (s .pre) (p .ensures .0) 8192 (c .before .before .before .count .given .1) (omega arith) (c .before .if1 .left) (p .ensures .1) .room))
 
 returns-2 : tie.Need-returns-2
-returns-2 c = (c .before .before .refuse .ensures .0 ∙ ap (λ (x : Answer (List ℕ)). printed (line-of (and-then x ran)) (c .before .before .before .before .before .before .before .before .before .before .before .before .args .out .now)) (text-breaks (c .before .before .before .before .before .before .before .before .before .before .before .before .args .text .now) (c .before .before .before .before .before .before .before .before .before .before .before .before .pre) (c .before .before .before .before .before .before .before .before .pass .result) (c .before .before .before .before .before .before .before .before .pass .ensures .0) (c .before .before .before .before .before .place .given .1)), c .before .before .refuse .ensures .1)
+returns-2 c =
+    let s = c .before .before .before .before .before .before .before .before .before .before .before .before in
+    let e = text-breaks (s .args .text .now) (s .pre) (c .before .before .before .before .before .before .before .before .pass .ensures .0) (c .before .before .before .before .before .place .given .1) in
+    (c .before .before .refuse .ensures .0 ∙ ap (λ (x : Answer (List ℕ)). printed (line-of (and-then x ran)) (s .args .out .now)) e, c .before .before .refuse .ensures .1)
 
 returns-3 : tie.Need-returns-3
-returns-3 c = (c .before .before .run-words .ensures .0 ∙ ap (λ (x : Answer (List ℕ)). printed (line-of (and-then x ran)) (c .before .before .before .before .before .before .before .before .before .before .before .before .before .before .args .out .now)) (text-words (c .before .before .before .before .before .before .before .before .before .before .before .before .before .before .args .text .now) (c .before .before .before .before .before .before .before .before .before .before .before .before .before .before .pre) (c .before .before .before .before .before .before .before .before .before .before .pass .result) (replicate 8192 0) (c .before .before .before .before .before .before .before .before .before .before .pass .last .1 .0) (c .before .before .before .before .before .before .before .before .before .before .pass .ensures .0) (c .before .before .before .before .before .before .before .count .given .1) (omega (arith, c .before .before .before .before .before .if1 .left)) (omega (arith, length-replicate {A = ℕ} 8192 0, c .before .before .before .before .before .if1 .left)) (c .before .before .before .before .before .before .before .before .before .before .pass .ensures .1) .words), c .before .before .run-words .ensures .1)
+returns-3 c =
+    let s = c .before .before .before .before .before .before .before .before .before .before .before .before .before .before in
+    let p = c .before .before .before .before .before .before .before .before .before .before .pass in
+    let e = text-words (s .args .text .now) (s .pre) (p .ensures .0) 8192 (c .before .before .before .before .before .before .before .count .given .1) (omega arith) (c .before .before .before .before .before .if1 .left) (p .ensures .1) .words in
+    (c .before .before .run-words .ensures .0 ∙ ap (λ (x : Answer (List ℕ)). printed (line-of (and-then x ran)) (s .args .out .now)) e, c .before .before .run-words .ensures .1)
 
 pub run-long-spec : {M : Type 1} → statement M
 run-long-spec =

@@ -9,7 +9,6 @@ use Rattle.states.specs.declared.Answer as code
 use Rattle.states.specs.declared.Cell.{Cell}
 use Prim.Native.Nat.{ℕ}
 use mathlib.Core.List.{List}
--- `run_words` meets its contract: each way is one way of the words' answer.
 use mathlib.Core.Path.{ap, sym, _∙_}
 use borrow.Author.Needs.{needs}
 use Rattle.woolquern.proofs.run_words.Statement.{statement}

@@ -1,6 +1,7 @@
 -- `keep` meets its contract: the counts and the settled state's line are put only where the line was.
-use Rattle.woolquern.proofs.Settled.{all-of, loop-refused, few-counts, short-line, room-for, refused-by, kept-by, printed-all, four-put, still-room}
-use Rattle.woolquern.proofs.Kept.{beside-short, beside-wrote}
+use Rattle.woolquern.proofs.Settled.{loop-refused, few-counts, short-line, room-for, refused-by, kept-by, printed-all, four-put, still-room}
+use Rattle.woolquern.proofs.Kept.{beside-by}
+use Rattle.woolquern.specs.Found.{all-of}
 use Rattle.woolquern.specs.Job.{counts-of, settled-line}
 use Rattle.text.specs.Line.{line, printed}
 use Rattle.text.specs.Answers.{of-answer}
@@ -34,13 +35,13 @@ returns-4 c =
     let a = c .before .before .before .before .before .before .before .before .before .before .before .before .before .before .before .before .before .before .args in
     let counts = a .counts .now in
     let settled = a .settled .now in
-    let all = all-of (a .found) (a .n) (length counts) (length settled) in
+    let all = all-of (a .found) (a .n) in
     let long = c .before .before .before .before .before .before .before .before .before .line-length .ensures ∙ ap (λ (x : code.Answer). length (line (a .n) (of-answer x))) (c .before .before .before .before .before .before .before .before .before .before .good2 .ensures) in
     let r = c .before .before .before .before .line .result in
     let short = c .enum-told2 .given .1 in (
       kept-by all counts settled (a .out .now) r (room-for (a .found) (a .n) (length counts) (length settled) (c .before .before .before .before .before .before .before .before .before .before .before .before .before .enum-told .given .1) (c .before .before .before .before .before .before .before .before .before .before .before .before .if1 .left) (omega (arith, long, c .before .before .before .before .before .before .before .before .if2 .left)))
           (c .before .before .before .before .line .ensures .0 ∙ ap (λ (x : code.Answer). printed (line (a .n) (of-answer x)) (a .out .now)) (c .before .before .before .before .before .before .good3 .ensures))
-          (beside-short r (counts-of all) counts short) (beside-short r (settled-line all) settled short),
+          (beside-by r (counts-of all) counts short) (beside-by r (settled-line all) settled short),
       c .before .before .before .before .line .ensures .1,
     )
 
@@ -61,7 +62,7 @@ returns-5 c =
     let counts = a .counts .now in
     let settled = a .settled .now in
     let found = a .found in
-    let all = all-of found (a .n) (length counts) (length settled) in
+    let all = all-of found (a .n) in
     let long = c .before .before .before .before .before .before .before .before .before .before .before .before .before .line-length .ensures ∙ ap (λ (x : code.Answer). length (line (a .n) (of-answer x))) (c .before .before .before .before .before .before .before .before .before .before .before .before .before .before .good2 .ensures) in
     let room = c .before .before .before .before .before .before .before .before .before .before .before .before .before .before .before .before .if1 .left in
     let fits : length (settled-line all) ≤ length settled = omega (arith, long, c .before .before .before .before .before .before .before .before .before .before .before .before .if2 .left) in
@@ -69,8 +70,8 @@ returns-5 c =
     let wrote = c .before .before .before .before .enum-told3 .given .1 in (
       kept-by all counts settled (a .out .now) r (room-for found (a .n) (length counts) (length settled) (c .before .before .before .before .before .before .before .before .before .before .before .before .before .before .before .before .before .enum-told .given .1) room fits)
           (c .before .before .before .before .before .before .before .before .line .ensures .0 ∙ ap (λ (x : code.Answer). printed (line (a .n) (of-answer x)) (a .out .now)) (c .before .before .before .before .before .before .before .before .before .before .good3 .ensures))
-          (four-put counts (found .searched) (found .unrolls) (found .joined) (found .widened) room ∙ beside-wrote r (counts-of all) counts wrote)
-          (printed-all (settled-line all) settled (c .before .before .line2 .result) fits (c .before .before .line2 .ensures .0 ∙ ap (λ (x : code.Answer). printed (line (a .n) (of-answer x)) settled) (c .before .before .before .before .before .before .before .before .before .before .before .before .before .before .good2 .ensures)) ∙ beside-wrote r (settled-line all) settled wrote),
+          (four-put counts (found .searched) (found .unrolls) (found .joined) (found .widened) room ∙ beside-by r (counts-of all) counts wrote)
+          (printed-all (settled-line all) settled (c .before .before .line2 .result) fits (c .before .before .line2 .ensures .0 ∙ ap (λ (x : code.Answer). printed (line (a .n) (of-answer x)) settled) (c .before .before .before .before .before .before .before .before .before .before .before .before .before .before .good2 .ensures)) ∙ beside-by r (settled-line all) settled wrote),
       c .before .before .before .before .before .before .before .before .line .ensures .1,
     )
 

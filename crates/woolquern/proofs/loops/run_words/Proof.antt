@@ -1,5 +1,6 @@
 -- `run_words` meets its contract: each way is one way of the loop's answer.
-use Rattle.woolquern.proofs.Settled.{loop-long, loop-bad, loop-sound, refused-by}
+use Rattle.woolquern.proofs.Settled.{loop-with, loop-sound, refused-by}
+use Rattle.woolquern.proofs.Jobs.{words-long, words-bad}
 use Rattle.woolquern.specs.Found.{loop-of}
 use Rattle.woolquern.specs.Job.{Loop, looping, with-room}
 use Rattle.analysis.specs.Outcomes as outcomes
@@ -17,12 +18,12 @@ use Rattle.woolquern.proofs.loops.run_words.Tie as tie
 returns : tie.Need-returns
 returns c =
     let a = c .before .before .before .before .before .before .before .before .before .args in
-    (refused-by (a .counts .now) (a .settled .now) (a .out .now) (c .before .before .refuse .result) (ap (λ (x : Answer Loop). and-then x (with-room (length (a .counts .now)) (length (a .settled .now)))) (loop-long (a .words .now) (a .unroll) (c .before .before .before .before .if1 .taken))) (c .before .before .refuse .ensures .0), c .before .before .refuse .ensures .1)
+    (refused-by (a .counts .now) (a .settled .now) (a .out .now) (c .before .before .refuse .result) (ap (λ (x : Answer Loop). and-then x (with-room (length (a .counts .now)) (length (a .settled .now)))) (words-long (a .words .now) (loop-with (a .words .now) (a .unroll)) (c .before .before .before .before .if1 .taken))) (c .before .before .refuse .ensures .0), c .before .before .refuse .ensures .1)
 
 returns-2 : tie.Need-returns-2
 returns-2 c =
     let a = c .before .before .before .before .before .before .before .before .before .before .before .before .before .args in
-    let e = loop-bad (a .words .now) (a .unroll) (c .before .before .before .before .before .before .before .before .if1 .left) (sym (c .before .before .before .before .before .number .given .1) ∙ c .before .before .before .before .before .before .before .check .ensures) in
+    let e = words-bad (a .words .now) (loop-with (a .words .now) (a .unroll)) (c .before .before .before .before .before .before .before .before .if1 .left) (sym (c .before .before .before .before .before .number .given .1) ∙ c .before .before .before .before .before .before .before .check .ensures) in
     (refused-by (a .counts .now) (a .settled .now) (a .out .now) (c .before .before .refuse2 .result) (ap (λ (x : Answer Loop). and-then x (with-room (length (a .counts .now)) (length (a .settled .now)))) e) (c .before .before .refuse2 .ensures .0), c .before .before .refuse2 .ensures .1)
 
 returns-3 : tie.Need-returns-3

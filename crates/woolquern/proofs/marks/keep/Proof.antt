@@ -1,5 +1,5 @@
 -- `keep` meets its contract: the marks are put only where the line was.
-use Rattle.woolquern.proofs.Kept.{found-refused, found-more, refused-by, kept-by, beside-short, beside-wrote}
+use Rattle.woolquern.proofs.Kept.{found-refused, found-more, refused-by, kept-by, beside-by}
 use Rattle.text.proofs.Drafts.{put-front}
 use lib.ListN.{length, take}
 use native.Mathlib.Omega.{arith}
@@ -23,13 +23,15 @@ returns-3 : tie.Need-returns-3
 returns-3 c =
     let s = c .before .before .before .before .before .before .before .before .before .before .before .before in
     let marks = s .args .marks .now in
-    (kept-by (s .args .found) (s .args .n) (s .args .count) marks marks (s .args .out .now) (c .before .before .before .before .line .result) (c .before .before .before .before .before .before .before .enum-told .given .1) (c .before .before .before .before .before .before .if1 .left) (c .before .before .before .before .line .ensures .0) (beside-short (c .before .before .before .before .line .result) (take (s .args .count) (s .args .found .marks)) marks (c .enum-told2 .given .1)), c .before .before .before .before .line .ensures .1)
+    (kept-by (s .args .found) (s .args .n) (s .args .count) marks marks (s .args .out .now) (c .before .before .before .before .line .result) (c .before .before .before .before .before .before .before .enum-told .given .1) (c .before .before .before .before .before .before .if1 .left) (c .before .before .before .before .line .ensures .0) (beside-by (c .before .before .before .before .line .result) (take (s .args .count) (s .args .found .marks)) marks (c .enum-told2 .given .1)), c .before .before .before .before .line .ensures .1)
 
-slice-aggregate-put : tie.Need-slice-aggregate-put
-slice-aggregate-put c = sym (length-take-le _ _ (c .before .before .before .before .before .before .before .before .before .before .before .before .before .before .pre))
+slice-aggregate-put-bytes : tie.Need-slice-aggregate-put-bytes
+slice-aggregate-put-bytes c = sym (length-take-le _ _ (c .before .before .before .before .before .before .before .before .before .before .before .before .before .before .before .pre))
 
-put-requires : tie.Need-put-requires
-put-requires c κs = omega (arith, length-take-le (c .before .before .before .before .before .before .before .before .before .before .before .before .before .before .before .args .count) (c .before .before .before .before .before .before .before .before .before .before .before .before .before .before .before .args .found .marks) (c .before .before .before .before .before .before .before .before .before .before .before .before .before .before .before .pre), c .before .before .before .before .before .before .before .before .before .if1 .left)
+put-bytes-requires : tie.Need-put-bytes-requires
+put-bytes-requires c κs =
+    let s = c .before .before .before .before .before .before .before .before .before .before .before .before .before .before .before in
+    omega (arith, length-take-le (s .args .count) (s .args .found .marks) (s .pre), c .before .before .before .before .before .before .before .before .before .if1 .left)
 
 returns-4 : tie.Need-returns-4
 returns-4 c =
@@ -38,7 +40,7 @@ returns-4 c =
     let bytes = take (s .args .count) (s .args .found .marks) in
     let room = c .before .before .before .before .before .before .before .before .before .before .before .before .if1 .left in (
       kept-by (s .args .found) (s .args .n) (s .args .count) marks _ (s .args .out .now) (c .before .before .before .before .before .before .before .before .before .before .line .result) (c .before .before .before .before .before .before .before .before .before .before .before .before .before .enum-told .given .1) room (c .before .before .before .before .before .before .before .before .before .before .line .ensures .0)
-          (put-front bytes (omega (arith, length-take-le (s .args .count) (s .args .found .marks) (s .pre), room)) (c .before .before .put .ensures) ∙ beside-wrote (c .before .before .before .before .before .before .before .before .before .before .line .result) bytes marks (c .before .before .before .before .before .before .enum-told3 .given .1)),
+          (put-front bytes (omega (arith, length-take-le (s .args .count) (s .args .found .marks) (s .pre), room)) (c .before .before .put-bytes .ensures) ∙ beside-by (c .before .before .before .before .before .before .before .before .before .before .line .result) bytes marks (c .before .before .before .before .before .before .enum-told3 .given .1)),
       c .before .before .before .before .before .before .before .before .before .before .line .ensures .1,
     )
 
@@ -47,5 +49,5 @@ keep-spec =
     tie.close
     (tie.spec
     (λ c. search needs) (λ c κs. search needs) (λ c. search needs) returns (λ c. search needs) (λ c κs. search needs) (λ c. search needs) returns-2
-    (λ c κs. search needs) (λ c. search needs) (λ c. search needs) returns-3 (λ c. search needs) (λ c. search needs) slice-aggregate-put put-requires
+    (λ c κs. search needs) (λ c. search needs) (λ c. search needs) returns-3 (λ c. search needs) (λ c. search needs) slice-aggregate-put-bytes put-bytes-requires
     (λ c. search needs) (λ c. search needs) returns-4)
