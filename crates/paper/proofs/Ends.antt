@@ -33,9 +33,10 @@ use Rattle.paper.specs.Reader.{Reading, Read}
 use Rattle.paper.specs.Rules as rules
 use Rattle.paper.specs.Rules.{Setting, Sides, Pass, Found, Settling, Settled, Looped}
 use Rattle.paper.specs.Answers as answers
+use Rattle.paper.specs.Places.{Placed, limit, short, variable, word}
 use Rattle.paper.proofs.Reading.{read-is-code}
 use Rattle.paper.proofs.Within.{below}
-use Rattle.paper.proofs.Places.{events-length, if-length, while-length, normalize-length, list-length, Among, among, Placed, limit, short, variable, word}
+use Rattle.paper.proofs.Places.{events-length, if-length, while-length, normalize-length, list-length, Among, among}
 use Rattle.paper.proofs.Numbers.{Numbered, read, ended, bad, program-numbered, unless-numbered}
 use Rattle.paper.proofs.Below.{AddendBelow, EventBelow, EventsBelow, EachBelow, StatementBelow, StatementsBelow}
 

@@ -1,4 +1,4 @@
--- How many words a node has, and where a refusal lies: document 01, "Answers by number", the column "Place".
+-- How many words a node has, and the refusals at its words.
 use mathlib.Core.Path.{_≡_}
 use mathlib.Core.List.{List}
 use Prim.Native.Nat.{ℕ, _+_, _≤_, _<_}
@@ -6,6 +6,7 @@ use native.Mathlib.Omega.{arith}
 use lib.ListN.{length, length-append}
 use Rattle.paper.specs.Tree.{Event, Events, _also_, Unroll, Default, Turns, Statement, IfThenElse, While, Normalize, Statements, _then_}
 use Rattle.paper.specs.Code as code
+use Rattle.paper.specs.Places.{Placed, limit, short, variable, word}
 
 -- ---- words
 
@@ -41,17 +42,6 @@ pub record Among (first end number place : ℕ) : Type 0 where
 
 pub among : {first end number place : ℕ} → 8 ≤ number → number ≤ 10 → first ≤ place → place < end → Among first end number place
 among l m f b = record { low = l; high = m; from = f; before = b }
-
--- the refusals of a list of so many words over n variables
-pub data Placed (size n : ℕ) : ℕ → ℕ → Type 0 where
-  -- list length, n or default unroll over its limit
-  limit : Placed size n 4 0
-  -- the words are short
-  short : Placed size n 3 size
-  -- a variable whose start is over its end
-  variable : (v : ℕ) → v < n → Placed size n 7 v
-  -- any other is at a word
-  word : (number place : ℕ) → 3 ≤ number → number ≤ 10 → (number ≡ 7 → ⊥) → place < size → Placed size n number place
 
 -- document 01's numbers for words
 pub placed-number : {size n number place : ℕ} → Placed size n number place → (3 ≤ number) × (number ≤ 10)
