@@ -32,7 +32,9 @@ use Rattle.paper.specs.Answers as answers
 use Rattle.paper.specs.Promises.{Covers}
 use Rattle.paper.specs.Table.{table}
 use Rattle.paper.proofs.Reading.{code-is-read}
-use Rattle.paper.proofs.Numbers.{Numbered, read, bad, program-numbered}
+use Rattle.paper.specs.Places.{Placed}
+use Rattle.paper.proofs.Places.{placed-number}
+use Rattle.paper.proofs.Numbers.{Numbered, read, ended, bad, program-numbered}
 use Rattle.paper.proofs.Ends.{Ends, gives, refuses, Gone, analysed-ends, looped-ends}
 use Rattle.paper.proofs.Within.{below}
 use Rattle.paper.proofs.Sure.{sure-of}
@@ -63,21 +65,22 @@ is-state {n} s b = go (s .live) refl
     go true q = page.each-a-range q (λ v h. (b .fit .full q v h, b .proper v h)) (b .fit .rest)
     go false q = subst (page.IsState n) (sym (b .fit .bare q)) page.empty
 
-answered-ends : {n : ℕ} (a : Answer State) → Ends 3 10 (Begun n) a → page.Answered n (answered a)
+answered-ends : {size n : ℕ} (a : Answer State) → Ends (Placed size n) (Begun n) a → page.Answered size n (answered a)
 answered-ends a (gives {a = s} b) = page.state (is-state s b)
-answered-ends a (refuses k {at} l m) = page.refusal k at (omega arith) (omega arith)
+answered-ends a (refuses k at r) = page.refusal k at (placed-number r .0) (omega (arith, placed-number r .1)) r
 
-looped-answered : {n : ℕ} (a : Answer Looped) → Ends 3 10 (Gone n) a → page.LoopAnswered n (looped a)
+looped-answered : {size n : ℕ} (a : Answer Looped) → Ends (Placed size n) (Gone n) a → page.LoopAnswered size n (looped a)
 looped-answered a (gives {a = l} g) = page.loop refl (is-state (l .exits) (g .exits)) (is-state (l .turned) (g .turned)) (is-state (l .settled) (g .settled))
-looped-answered a (refuses k {at} l m) = page.refusal k at (omega arith) (omega arith)
+looped-answered a (refuses k at r) = page.refusal k at (placed-number r .0) (omega (arith, placed-number r .1)) r
 
-checked-answered : (m : reader.Reading Statements) → Numbered m → page.CheckAnswered (checked m)
+checked-answered : {size : ℕ} (m : reader.Reading Statements) → Numbered size m → page.CheckAnswered size (checked m)
 unfolding checked
-checked-answered m (read {a = p}) = page.sound _
-checked-answered m (bad k {at} l h) = page.refusal k at (omega arith) (omega arith)
+checked-answered m (read {a = p} l) = page.sound _
+checked-answered m ended = page.short
+checked-answered m (bad k {at} l h inside) = page.refusal k at l h inside
 
-analyse-answered : (i : Input) (r : code.Answer) → Analyse i r → page.Answered (i .n) r
-analyse-answered i r e = subst (page.Answered (i .n)) (sym e) (answered-ends _ (analysed-ends (i .words) (i .n) (i .start .cells) (i .unroll) (i .sixty-four)))
+analyse-answered : (i : Input) (r : code.Answer) → Analyse i r → page.Answered (length (i .words)) (i .n) r
+analyse-answered i r e = subst (page.Answered (length (i .words)) (i .n)) (sym e) (answered-ends _ (analysed-ends (i .words) (i .n) (i .start .cells) (i .unroll) (i .sixty-four)))
 
 no-marks : (i : Input) (r : Marked) (number place : ℕ) → AnalyseMarked i r → r .answer .verdict ≡ Refused number place → r .marks ≡ replicate 8192 0
 no-marks i r number place e q =
@@ -89,8 +92,8 @@ always-an-answer = record {
   analyse = analyse-answered;
   analyse-marked = λ i r e. analyse-answered i (r .answer) (ap (λ (m : Marked). m .answer) e);
   no-marks = no-marks;
-  analyse-loop = λ i r e. subst (page.LoopAnswered (i .n)) (sym e) (looped-answered _ (looped-ends (i .words) (i .n) (i .start .cells) (i .unroll) (i .sixty-four)));
-  check = λ words n r e. subst page.CheckAnswered (sym e) (checked-answered (reader.program words n) (program-numbered words n));
+  analyse-loop = λ i r e. subst (page.LoopAnswered (length (i .words)) (i .n)) (sym e) (looped-answered _ (looped-ends (i .words) (i .n) (i .start .cells) (i .unroll) (i .sixty-four)));
+  check = λ words n r e. subst (page.CheckAnswered (length words)) (sym e) (checked-answered (reader.program words n) (program-numbered words n));
   every-number = every-number;
 }
 

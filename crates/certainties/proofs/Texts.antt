@@ -24,7 +24,8 @@ use Rattle.paper.specs.Reader as reader
 use Rattle.paper.specs.Runs.{Store, Holds}
 use Rattle.paper.specs.Answers as answers
 use Rattle.paper.proofs.Reading.{read-is-code}
-use Rattle.paper.proofs.Numbers.{Numbered, read, bad, program-numbered}
+use Rattle.paper.proofs.Places.{Among}
+use Rattle.paper.proofs.Numbers.{Numbered, read, ended, bad, program-numbered}
 use Rattle.paper.proofs.Within.{below}
 use Rattle.paper.proofs.Ends.{Ends, gives, refuses, list-ends}
 use Rattle.paper.proofs.Certain.{certain}
@@ -162,9 +163,9 @@ module _ (ws : List ℕ) (n : ℕ) where
   refused : {number : ℕ} (place : ℕ) → answers.analysed ws n states.zeros 0 ≡ Refuses number place → 1 ≤ number → number ≤ 10 → (number ≡ 7 → ⊥) → JobAnswered (for n (answers.analysed ws n states.zeros 0))
   refused {number} place e low high other = subst (λ (a : Answer State). JobAnswered (for n a)) (sym e) (page.refusal number place low high other)
 
-  by-the-rules : (a : Answer State) → Ends 8 10 (Begun n) a → JobAnswered (for n a)
+  by-the-rules : {first end : ℕ} (a : Answer State) → Ends (Among first end) (Begun n) a → JobAnswered (for n a)
   by-the-rules a (gives {a = s} b) = page.state (is-state s b)
-  by-the-rules a (refuses k {at} l m) = page.refusal k at (omega arith) (omega arith) (λ e. omega arith)
+  by-the-rules a (refuses k at r) = page.refusal k at (omega (arith, r .low)) (r .high) (λ e. omega (arith, r .low))
 
   module _ (few : length ws ≤ 8192) (small : n ≤ 64) where
     abbrev start : State
@@ -178,9 +179,10 @@ module _ (ws : List ℕ) (n : ℕ) where
     begun : Begun n start
     begun = sure-of (started-begun n states.zeros refl) (let-in ws n 0 states.zeros few small (omega arith) ∙ admitted)
 
-    from-there : (m : reader.Reading Statements) → reader.program ws n ≡ m → Numbered m → JobAnswered (for n (answers.analysed ws n states.zeros 0))
-    from-there m e (bad k {at} l h) = refused at (analysed-bad ws n 0 states.zeros admitted e) (omega arith) (omega arith) (λ e. omega arith)
-    from-there m e (read {a = p}) = subst (λ (a : Answer State). JobAnswered (for n a)) (sym (analysed-read ws n 0 states.zeros admitted e))
+    from-there : (m : reader.Reading Statements) → reader.program ws n ≡ m → Numbered (length ws) m → JobAnswered (for n (answers.analysed ws n states.zeros 0))
+    from-there m e ended = refused (length ws) (analysed-bad ws n 0 states.zeros admitted e) (omega arith) (omega arith) (λ e. omega arith)
+    from-there m e (bad k {at} l h inside) = refused at (analysed-bad ws n 0 states.zeros admitted e) (omega arith) (omega arith) (λ e. omega arith)
+    from-there m e (read {a = p} l) = subst (λ (a : Answer State). JobAnswered (for n a)) (sym (analysed-read ws n 0 states.zeros admitted e))
         (by-the-rules _ (list-ends (record { n = n; unroll = 0 }) small p 1 start (below n (read-is-code ws n e .within)) begun))
 
   zeros-answered : length ws ≤ 8192 → JobAnswered (for n (answers.analysed ws n states.zeros 0))
@@ -194,9 +196,10 @@ ran-answered : (ws : List ℕ) → length ws ≤ 8192 → JobAnswered (answers.r
 unfolding checked
 ran-answered ws few = go (reader.program ws 64) refl (program-numbered ws 64)
   where
-    go : (m : reader.Reading Statements) → reader.program ws 64 ≡ m → Numbered m → JobAnswered (answers.ran ws)
-    go m e (bad k {at} l h) = subst JobAnswered (sym (ran-bad ws few (sym (ap checked e)))) (page.refusal k at (omega arith) (omega arith) (λ e. omega arith))
-    go m e read = subst JobAnswered (sym (ran-sound ws few (sym (ap checked e)))) (zeros-answered ws _ few)
+    go : (m : reader.Reading Statements) → reader.program ws 64 ≡ m → Numbered (length ws) m → JobAnswered (answers.ran ws)
+    go m e ended = subst JobAnswered (sym (ran-bad ws few (sym (ap checked e)))) (page.refusal 3 (length ws) (omega arith) (omega arith) (λ e. omega arith))
+    go m e (bad k {at} l h inside) = subst JobAnswered (sym (ran-bad ws few (sym (ap checked e)))) (page.refusal k at (omega arith) (omega arith) (λ e. omega arith))
+    go m e (read l) = subst JobAnswered (sym (ran-sound ws few (sym (ap checked e)))) (zeros-answered ws _ few)
 
 job-answered : (text : List ℕ) (a : JobAnswer) → TextAnswered text a → JobAnswered a
 job-answered text a (page.too-long h) = page.refusal 2 0 (omega arith) (omega arith) (λ e. omega arith)

@@ -25,6 +25,7 @@ use Rattle.paper.specs.Entries.{ListEnters}
 use Rattle.paper.specs.Trace as trace
 use Rattle.paper.specs.Visits.{Visit, pass-at, exit-at, analysed-at, ListVisits}
 use Rattle.paper.specs.Answers as answers
+use Rattle.paper.specs.Places.{Placed}
 use Rattle.paper.specs.Table.{Table}
 use Rattle.words.specs.declared.Checked.{Checked}
 use Rattle.words.specs.declared.Checked.the-variants as checked-is
@@ -69,27 +70,28 @@ pub data IsState (n : ℕ) : State → Type 0 where
   empty : IsState n states.empty
 
 -- "Every .. word list and starting state gets a range for each variable, the answer empty, or one numbered refusal with its place. .. A refusal hands back no state"
-pub data Answered (n : ℕ) : Answer → Type 0 where
-  state : {s : State} → IsState n s → Answered n (record { verdict = Good; state = s })
-  refusal : (number place : ℕ) → 3 ≤ number → number ≤ 10 → Answered n (record { verdict = Refused number place; state = states.empty })
+pub data Answered (size n : ℕ) : Answer → Type 0 where
+  state : {s : State} → IsState n s → Answered size n (record { verdict = Good; state = s })
+  refusal : (number place : ℕ) → 3 ≤ number → number ≤ 10 → Placed size n number place → Answered size n (record { verdict = Refused number place; state = states.empty })
 
 -- the same of a loop's own entry: a refusal hands back no state and no counts
-pub data LoopAnswered (n : ℕ) : LoopAnswer → Type 0 where
-  loop : {r : LoopAnswer} → r .verdict ≡ Good → IsState n (r .exits) → IsState n (r .turned) → IsState n (r .settled) → LoopAnswered n r
-  refusal : (number place : ℕ) → 3 ≤ number → number ≤ 10 → LoopAnswered n (looped (Refuses number place))
+pub data LoopAnswered (size n : ℕ) : LoopAnswer → Type 0 where
+  loop : {r : LoopAnswer} → r .verdict ≡ Good → IsState n (r .exits) → IsState n (r .turned) → IsState n (r .settled) → LoopAnswered size n r
+  refusal : (number place : ℕ) → 3 ≤ number → number ≤ 10 → Placed size n number place → LoopAnswered size n (looped (Refuses number place))
 
--- and of the check
-pub data CheckAnswered : Checked → Type 0 where
-  sound : (variables : ℕ) → CheckAnswered (checked-is.Sound variables)
-  refusal : (number place : ℕ) → 3 ≤ number → number ≤ 6 → CheckAnswered (checked-is.Refused number place)
+-- and of the check: a refusal is at a word, or 3 at the list's length
+pub data CheckAnswered (size : ℕ) : Checked → Type 0 where
+  sound : (variables : ℕ) → CheckAnswered size (checked-is.Sound variables)
+  short : CheckAnswered size (checked-is.Refused 3 size)
+  refusal : (number place : ℕ) → 3 ≤ number → number ≤ 6 → place < size → CheckAnswered size (checked-is.Refused number place)
 
 -- "The caller need check nothing.": no statement has a condition
 pub record AlwaysAnAnswer : Type 0 where
-  pub analyse : (i : Input) (r : Answer) → Analyse i r → Answered (i .n) r
-  pub analyse-marked : (i : Input) (r : Marked) → AnalyseMarked i r → Answered (i .n) (r .answer)
+  pub analyse : (i : Input) (r : Answer) → Analyse i r → Answered (length (i .words)) (i .n) r
+  pub analyse-marked : (i : Input) (r : Marked) → AnalyseMarked i r → Answered (length (i .words)) (i .n) (r .answer)
   pub no-marks : (i : Input) (r : Marked) (number place : ℕ) → AnalyseMarked i r → r .answer .verdict ≡ Refused number place → r .marks ≡ replicate 8192 0
-  pub analyse-loop : (i : Input) (r : LoopAnswer) → AnalyseLoop i r → LoopAnswered (i .n) r
-  pub check : (words : List ℕ) (n : ℕ) (r : Checked) → Check words n r → CheckAnswered r
+  pub analyse-loop : (i : Input) (r : LoopAnswer) → AnalyseLoop i r → LoopAnswered (length (i .words)) (i .n) r
+  pub check : (words : List ℕ) (n : ℕ) (r : Checked) → Check words n r → CheckAnswered (length words) r
   -- each of the eight numbers does occur
   pub every-number : (number : ℕ) → 3 ≤ number → number ≤ 10 → (i : Input) × (place : ℕ) × Analyse i (answered (Refuses number place))
 

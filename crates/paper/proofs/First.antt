@@ -74,7 +74,8 @@ module _ {A : Type 0} {ws : List ℕ} {b i : ℕ} where
             );
       }
 
-then-then : {A B C : Type 0} (m : Reading A) (p : A → ℕ → Reading B) (q : B → ℕ → Reading C) → and-read (and-read m p) q ≡ and-read m (λ a i. and-read (p a i) q)
+-- readings one after the other, from the left or from the right
+pub then-then : {A B C : Type 0} (m : Reading A) (p : A → ℕ → Reading B) (q : B → ℕ → Reading C) → and-read (and-read m p) q ≡ and-read m (λ a i. and-read (p a i) q)
 unfolding and-read
 then-then (Read a i) p q = refl
 then-then (Bad k at) p q = refl

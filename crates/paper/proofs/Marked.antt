@@ -5,34 +5,18 @@ use mathlib.Core.List.{List, [], _∷_}
 use Prim.Native.Nat.{ℕ, _+_, _<_}
 use native.Mathlib.Omega.{arith}
 use lib.Dec.{eqb}
-use lib.ListN.{length, getD, set, length-append, length-set}
+use lib.ListN.{length, getD, set, length-set}
 use lib.Seq.{getD-set-same, getD-set-other}
 use borrow.Author.Tests.{eqb-true, eqb-false}
 use Rattle.ranges.specs.Ranges as ranges
-use Rattle.paper.specs.Tree.{Event, Unroll, Default, Turns, Statement, IfThenElse, While, Normalize, Statements, _then_}
+use Rattle.paper.specs.Tree.{Statement, Statements}
 use Rattle.paper.specs.Code as code
 use Rattle.paper.specs.Trace as trace
 use Rattle.paper.specs.Runs.{Store}
 use Rattle.paper.specs.Entries.{StatementEnters, then-list, in-then, else-list, in-else, loop-body, in-body, in-normalize, ListEnters, in-first, in-rest}
+use Rattle.paper.proofs.Places.{if-length, while-length, normalize-length, list-length}
 
 -- ---- places
-
-if-length : (e : Event) (t f : Statements) → length (code.statement (IfThenElse e t f)) ≡ 3 + length (code.event e) + length (code.list t) + length (code.list f)
-unfolding code.statement
-if-length e t f = simp length-append (omega arith)
-
-while-length : (u : Unroll) (e : Event) (b : Statements) → length (code.statement (While u e b)) ≡ 4 + length (code.event e) + length (code.list b)
-unfolding code.statement
-while-length Default e b = simp length-append (omega arith)
-while-length (Turns u) e b = simp length-append (omega arith)
-
-normalize-length : (vs : List ℕ) (b : Statements) → length (code.statement (Normalize vs b)) ≡ 3 + length vs + length (code.list b)
-unfolding code.statement
-normalize-length vs b = simp length-append (omega arith)
-
-list-length : (c : Statement) (cs : Statements) → length (code.list (c then cs)) ≡ length (code.statement c) + length (code.list cs)
-unfolding code.list
-list-length c cs = simp length-append
 
 mutual
   statement-place : (c : Statement) (at : ℕ) (σ : Store) (place : ℕ) → StatementEnters c at σ place → place < at + length (code.statement c)
