@@ -3,22 +3,23 @@ use mathlib.Core.Path.{_≡_, refl, sym, ap, ap₂, _∙_, subst}
 use mathlib.Core.Logic.{_⊎_, inl, inr}
 use mathlib.Core.Bool.{Bool, true, false, cond}
 use mathlib.Core.List.{List, [], _∷_, _++_, append-nil}
-use Prim.Native.Nat.{ℕ, suc, _+_, _≤_, _<_}
+use Prim.Native.Nat.{ℕ, suc, _+_, _-_, _≤_, _<_}
 use native.Mathlib.Omega.{arith}
 use native.Mathlib.Numerals.{add-one}
-use lib.Dec.{ltb}
+use lib.Dec.{ltb, eqb}
 use lib.ListN.{length, getD, take, drop, set, length-set, take-append-drop}
 use lib.Seq.{drop-cons, drop-length, take-suc-set, drop-set-lt, append-snoc}
-use borrow.Author.Tests.{lt-ltb, le-ltb, ne-eqb}
+use borrow.Author.Tests.{lt-ltb, le-ltb, eqb-true, eqb-false, ne-eqb}
 use Rattle.states.specs.Answers.{Gives}
 use Rattle.text.specs.declared.Found.{Found}
 use Rattle.text.specs.declared.Found.the-variants.{Holds, Breaks}
+use Rattle.text.specs.declared.Class.{Class}
 use Rattle.text.specs.declared.Class.the-variants.{Digit, Other}
 use Rattle.text.specs.declared.Mode.{Mode}
 use Rattle.text.specs.declared.Mode.the-variants.{Start}
 use Rattle.text.specs.declared.Move.{Move}
 use Rattle.text.specs.declared.Move.the-variants.{Stop, To, Push}
-use Rattle.text.specs.Machine.{class-of, step, Contents, holds, breaks, later, push, whole, at-end, follow, contents, numbers-by, numbers, stored, found, put, FitsIn, settle, outcome}
+use Rattle.text.specs.Machine.{class-of, more, in-digits, step, Contents, holds, breaks, later, push, whole, at-end, follow, contents, numbers-by, numbers, stored, found, put, FitsIn, settle, outcome}
 use Rattle.text.specs.Answers.{leaves, refused, done}
 
 -- a byte that is none of the single ones
@@ -27,6 +28,22 @@ pub class-rest : (b : ℕ)
     → class-of b ≡ cond (ltb b 0x31) Other (cond (ltb 0x39 b) Other Digit)
 class-rest b w₁ w₂ w₃ w₄ z o c m =
     simp (ne-eqb b 0x20 w₁, ne-eqb b 0x09 w₂, ne-eqb b 0x0A w₃, ne-eqb b 0x0D w₄, ne-eqb b 0x30 z, ne-eqb b 0x5B o, ne-eqb b 0x5D c, ne-eqb b 0x2C m)
+
+-- a digit from 1 to 9
+pub class-digit : (b : ℕ) → 0x30 < b → b < 0x3A → class-of b ≡ Digit
+class-digit b above below =
+    class-rest b (λ e. omega arith) (λ e. omega arith) (λ e. omega arith) (λ e. omega arith) (λ e. omega arith) (λ e. omega arith) (λ e. omega arith) (λ e. omega arith)
+    ∙ simp (le-ltb b 0x31 (omega arith), le-ltb 0x39 b (omega arith))
+
+-- in a number, a digit goes on with it, whether it is nought or not
+pub digits-on : (v b : ℕ) → 0x2F < b → b < 0x3A → in-digits v (class-of b) b ≡ more v (b - 48)
+digits-on v b above below = by (eqb b 0x30) refl
+  where
+    by : (q : Bool) → eqb b 0x30 ≡ q → in-digits v (class-of b) b ≡ more v (b - 48)
+    by true e = rw (eqb-true b 0x30 e)
+    by false e =
+        let other = eqb-false b 0x30 e in
+        ap (λ (k : Class). in-digits v k b) (class-digit b (omega arith) below)
 
 -- ---- what a pass finds
 

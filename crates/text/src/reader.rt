@@ -162,10 +162,30 @@ fn in_closed(k: Class) -> Move
     }
 }
 
-// What the byte b does in the mode m.
+// A blank ends a number, and is passed over elsewhere.
+fn blank(m: Mode) -> Move
+    ensures { λ r. ⌜ r ≡ machine.step m Class.Blank 0x20 ⌝ }
+{
+    if let Mode::Digits(v) = m {
+        return Move::Push(v, Mode::Ended);
+    }
+    Move::To(m)
+}
+
+// What the byte b does in the mode m. The digits of a number and the blanks, which long texts are made of, are told before the mode.
 fn step(m: Mode, b: u8) -> Move
     ensures { λ r. ⌜ r ≡ machine.step m (machine.class-of b) b ⌝ }
 {
+    if 0x2F < b {
+        if b < 0x3A {
+            if let Mode::Digits(v) = m {
+                return more(v, value(b));
+            }
+        }
+    }
+    if b == 0x20 {
+        return blank(m);
+    }
     match m {
         Mode::Start => in_start(class_of(b)),
         Mode::Opened => in_opened(class_of(b), b),
