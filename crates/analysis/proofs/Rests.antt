@@ -9,6 +9,7 @@ use Rattle.states.specs.declared.State.{State}
 use Rattle.states.specs.Answers.{Answer, Gives, Refuses, and-then}
 use Rattle.states.specs.States as states
 use Rattle.states.proofs.Order.{same-within}
+use Rattle.states.proofs.Sure.{gives-one}
 use Rattle.paper.specs.Rules as rules
 use Rattle.paper.specs.Trace as trace
 use Rattle.paper.specs.Trace.{after, mark}
@@ -42,9 +43,6 @@ mark-twice (at ∷ p) m =
 
 pub mark-again : (p m : List ℕ) → mark (p ++ p) m ≡ mark p m
 mark-again p m = mark-append p p m ∙ mark-twice p m
-
-pub gives-one : {A : Type 0} {a b : A} → Gives a ≡ Gives b → a ≡ b
-gives-one e = cc
 
 -- ---- the passes again
 

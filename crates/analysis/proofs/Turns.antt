@@ -15,6 +15,7 @@ use Rattle.paper.specs.Rules.{Setting}
 use Rattle.paper.specs.Trace as trace
 use Rattle.paper.specs.Trace.{mark}
 use Rattle.paper.specs.Tree.{Unroll, Event, While, Statements}
+use Rattle.states.proofs.Sure.{gives-one}
 use Rattle.analysis.specs.declared.Pass.{Pass}
 use Rattle.analysis.specs.declared.Found.{Found}
 use Rattle.analysis.specs.declared.Found.the-variants.{At}
@@ -27,7 +28,7 @@ use Rattle.analysis.specs.Outcomes.{passed, found-by, sought-by, grown, 
 use Rattle.analysis.specs.Sought.{Sought, sought, at-rest}
 use Rattle.analysis.specs.Noted as noted
 use Rattle.analysis.specs.Noted.{Noted, plain, then-noted, ending, Says}
-use Rattle.analysis.proofs.Rests.{gives-one, mark-again, search-is, rests, rests-by}
+use Rattle.analysis.proofs.Rests.{mark-again, search-is, rests, rests-by}
 use Rattle.analysis.proofs.Says.{Leads, leads-self, leads-then, leads-by, says-plain, from-good, from-refused, then-good, then-refused, then-stopped, ending-good, ending-refused, answered-good, answered-refused, passed-good, passed-refused, grown-good, grown-refused, settled-good, settled-refused, looped-good, looped-refused}
 
 -- ---- what the search found

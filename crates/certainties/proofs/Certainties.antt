@@ -37,7 +37,7 @@ use Rattle.paper.proofs.Places.{placed-number}
 use Rattle.paper.proofs.Numbers.{Numbered, read, ended, bad, program-numbered}
 use Rattle.paper.proofs.Ends.{Ends, gives, refuses, Gone, analysed-ends, looped-ends}
 use Rattle.paper.proofs.Within.{below}
-use Rattle.paper.proofs.Sure.{sure-of}
+use Rattle.states.proofs.Sure.{sure-of}
 use Rattle.paper.proofs.Held.{holds-dead}
 use Rattle.paper.proofs.Starts.{admitted-ok}
 use Rattle.paper.proofs.Visits.{visit-most, list-visits}

@@ -32,7 +32,7 @@ use Rattle.paper.proofs.Spelled.{Codes, letter, all-at, unless-is}
 use Rattle.paper.proofs.Reading.{read-is-code, code-is-read}
 use Rattle.paper.proofs.Below.{StatementsBelow}
 use Rattle.paper.proofs.Within.{event-below, below}
-use Rattle.paper.proofs.Sure.{Sure, given, refused, sure-then, sure-by, sure-elim, sure-map, sure-of}
+use Rattle.states.proofs.Sure.{Sure, given, refused, sure-then, sure-by, sure-elim, sure-map, sure-of}
 use Rattle.paper.proofs.Held.{holds-dead}
 use Rattle.paper.proofs.Loops.{Post}
 use Rattle.paper.proofs.Sound.{list-ok}

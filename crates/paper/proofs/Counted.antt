@@ -14,7 +14,7 @@ use Rattle.paper.specs.Rules as rules
 use Rattle.paper.specs.Rules.{Pass, Found, AtPass, Nowhere, Looped}
 use Rattle.paper.specs.Trace as trace
 use Rattle.paper.specs.Runs.{False}
-use Rattle.paper.proofs.Sure.{Sure, given, sure-by, sure-elim, sure-map, sure-of}
+use Rattle.states.proofs.Sure.{Sure, given, sure-by, sure-elim, sure-map, sure-of}
 use Rattle.paper.proofs.Splits.{Kept}
 use Rattle.paper.proofs.Loops.{Passed, Still, still-within, joining-still, found-still}
 

@@ -27,7 +27,7 @@ use Rattle.paper.specs.Visits.{Visit, event-at, body-at, pass-at, exit-a
 use Rattle.paper.specs.Runs.{Store, True, False, Runs, Turned, Holds, _∈_}
 use Rattle.paper.specs.Entries.{StatementEnters, then-list, in-then, else-list, in-else, loop-body, in-body, in-normalize, ListEnters, in-first, in-rest}
 use Rattle.paper.proofs.Below.{EachBelow, StatementBelow, StatementsBelow}
-use Rattle.paper.proofs.Sure.{Sure, given, refused, sure-then, sure-by, sure-elim, sure-map, sure-of, sure-both}
+use Rattle.states.proofs.Sure.{Sure, given, refused, sure-then, sure-by, sure-elim, sure-map, sure-of, sure-both}
 use Rattle.paper.proofs.Held.{put-kept}
 use Rattle.paper.proofs.Splits.{Kept, Split, event-ok}
 use Rattle.paper.proofs.Loops.{Post, Passed, either, Covered, covered-first, covered-next, Grows, join-grows, widen-grows, growing-ok, widening-settles, loop-ok}

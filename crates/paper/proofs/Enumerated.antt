@@ -19,7 +19,7 @@ use Rattle.paper.specs.Rules as rules
 use Rattle.states.specs.Answers.{Answer}
 use Rattle.paper.specs.Runs.{Store, Holds, _∈_}
 use Rattle.paper.proofs.Below.{EachBelow}
-use Rattle.paper.proofs.Sure.{Sure, given, refused, sure-then, sure-elim, sure-map}
+use Rattle.states.proofs.Sure.{Sure, given, refused, sure-then, sure-elim, sure-map}
 use Rattle.paper.proofs.Held.{put-kept, join-left, join-right}
 use Rattle.paper.proofs.Loops.{Post}
 

@@ -14,7 +14,7 @@ use Rattle.states.specs.States as states
 use Rattle.paper.specs.Rules as rules
 use Rattle.paper.specs.Rules.{Pass}
 use Rattle.paper.specs.Visits.{Head, first, next, joined, widened, Point, all-set, set-to}
-use Rattle.paper.proofs.Sure.{Sure, given, sure-by, sure-elim, sure-of}
+use Rattle.states.proofs.Sure.{Sure, given, sure-by, sure-elim, sure-of}
 
 -- ---- the heads and the points
 

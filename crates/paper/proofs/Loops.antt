@@ -18,7 +18,7 @@ use Rattle.paper.specs.Rules as rules
 use Rattle.paper.specs.Rules.{Pass, Settled, Found, AtPass, Nowhere, Settling, Looped}
 use Rattle.paper.specs.Runs.{Store, True, False, Runs, Turned, at-head, once-more, Holds}
 use Rattle.paper.specs.Promises.{Accepted, LoopHolds}
-use Rattle.paper.proofs.Sure.{Sure, given, sure-then, sure-by, sure-elim, sure-map, sure-of, sure-eq, sure-both}
+use Rattle.states.proofs.Sure.{Sure, given, sure-then, sure-by, sure-elim, sure-map, sure-of, sure-eq, sure-both}
 use Rattle.paper.proofs.Held.{join-left, join-right, within-held}
 use Rattle.paper.proofs.Splits.{Kept}
 

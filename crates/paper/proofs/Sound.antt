@@ -22,7 +22,7 @@ use Rattle.states.specs.Answers.{Answer}
 use Rattle.paper.specs.Rules.{Setting, Sides}
 use Rattle.paper.specs.Runs.{Store, worth, _∈_, False, Run, sampled, assigned, decremented, went-then, went-else, left, normalized, Runs, ended, went-on, Turned, Holds}
 use Rattle.paper.proofs.Below.{AddendBelow, StatementBelow, StatementsBelow}
-use Rattle.paper.proofs.Sure.{Sure, given, refused, sure-then, sure-if, sure-map}
+use Rattle.states.proofs.Sure.{Sure, given, refused, sure-then, sure-if, sure-map}
 use Rattle.paper.proofs.Held.{holds-dead, put-stored, join-left, join-right}
 use Rattle.paper.proofs.Splits.{Kept, Split, event-ok}
 use Rattle.paper.proofs.Loops.{Post, Passed, Looping, loop-ok}

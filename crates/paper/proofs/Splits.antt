@@ -19,7 +19,7 @@ use Rattle.paper.specs.Rules as rules
 use Rattle.paper.specs.Rules.{Setting, Sides, cut}
 use Rattle.paper.specs.Runs.{Store, Holds, True, False, AllTrue, OneFalse}
 use Rattle.paper.proofs.Below.{EventBelow, EventsBelow}
-use Rattle.paper.proofs.Sure.{Sure, given, refused, sure-then, sure-if, sure-map}
+use Rattle.states.proofs.Sure.{Sure, given, refused, sure-then, sure-if, sure-map}
 use Rattle.paper.proofs.Held.{put-kept, join-left, join-right}
 
 -- an event goes one way or the other

@@ -20,7 +20,7 @@ use Rattle.states.proofs.Starts.{Said, too-many, lowest, one-empty, as-given, s
 use Rattle.states.proofs.Fits.{fit-empty}
 use Rattle.paper.specs.Runs.{Store, Holds}
 use Rattle.paper.specs.Answers as answers
-use Rattle.paper.proofs.Sure.{Sure, given, refused, sure-elim}
+use Rattle.states.proofs.Sure.{Sure, given, refused, sure-elim}
 
 -- what is admitted: at most 64 variables, and a state that holds the stores of the caller's ranges
 pub record Admitted (n : ℕ) (cs : List Cell) (s : State) : Type 0 where

@@ -19,7 +19,7 @@ use Rattle.paper.specs.Visits.{Visit, event-at, body-at, pass-at, exit-a
 use Rattle.paper.specs.Visits.{StatementVisits, here, in-then, in-else, in-body, in-normalize, ListVisits, in-first, in-rest}
 use Rattle.paper.specs.Promises.{VisitHolds}
 use Rattle.paper.proofs.Below.{EachBelow, EventBelow, StatementBelow, StatementsBelow}
-use Rattle.paper.proofs.Sure.{Sure, sure-of}
+use Rattle.states.proofs.Sure.{Sure, sure-of}
 use Rattle.paper.proofs.Splits.{Split, event-ok}
 use Rattle.paper.proofs.Loops.{Post, Passed}
 use Rattle.paper.proofs.Sound.{pass-ok, exit-ok, looping-ok, statement-ok, list-ok}

@@ -32,15 +32,16 @@ pub sure-map : {A : Type 0} {P Q : A → Type 0} {a : Answer A} → Sure P a →
 sure-map (given {a = x} p) h = given (h x p)
 sure-map refused h = refused
 
-inner : {A : Type 0} {a b : A} → Gives a ≡ Gives b → a ≡ b
-inner e = cc
+-- an answer gives one thing
+pub gives-one : {A : Type 0} {a b : A} → Gives a ≡ Gives b → a ≡ b
+gives-one e = cc
 
 same-gives : {A : Type 0} {a : A} {k at : ℕ} → Refuses k at ≡ Gives a → ⊥
 same-gives e = let z : _≡_ {A = ℕ} 0 1 = cc in omega arith
 
 -- what it gives has the fact
 pub sure-of : {A : Type 0} {P : A → Type 0} {a : Answer A} {x : A} → Sure P a → a ≡ Gives x → P x
-sure-of {P = P} (given p) e = subst P (inner e) p
+sure-of {P = P} (given p) e = subst P (gives-one e) p
 sure-of refused e = absurd (same-gives e)
 
 -- what is known of the given thing, where the answer is known
