@@ -281,7 +281,7 @@ statement-end-list-end-requires-4 t c κs =
     let k : getD (c .before .before .before .before .before .before .before .before .before .args .words .now) (c .before .before .before .before .before .before .before .before .before .args .at) 0 ≡ 7 = omega (arith, statement-kind (p .tree) (p .is) .0, statement-kind (p .tree) (p .is) .1) in
     let x = normalize-here (p .tree) (p .is) k in (
       omega (arith, statement-ends (p .tree) (p .is), x .size),
-      record { tree = x .body; is = begins-at (omega (arith, x .count-is)) (x .body-is) },
+      record { tree = x .body; is = begins-at {l = code.program (x .body)} {i = code.normalized-at (c .before .before .before .before .before .before .before .before .before .args .at) (x .given)} (omega (arith, x .count-is)) (x .body-is) },
     )
 
 statement-end-returns-7 : (t : ℕ) → statement-end-lts.Need-returns-7 (statement-end-claims t) (statement-end-at t) statement-end.Post
@@ -289,7 +289,7 @@ statement-end-returns-7 t c =
     λ s h.
     let k : getD (c .before .before .before .before .before .before .before .before .before .before .args .words .now) (c .before .before .before .before .before .before .before .before .before .before .args .at) 0 ≡ 7 = omega (arith, statement-kind s h .0, statement-kind s h .1) in
     let x = normalize-here s h k in
-    let e = c .list-end4 .ensures (x .body) (begins-at (omega (arith, x .count-is)) (x .body-is)) in
+    let e = c .list-end4 .ensures (x .body) (begins-at {l = code.program (x .body)} {i = code.normalized-at (c .before .before .before .before .before .before .before .before .before .before .args .at) (x .given)} (omega (arith, x .count-is)) (x .body-is)) in
     omega (arith, x .size, x .count-is)
 
 pub +list-end+statement-end-spec : {M : Type 1} → statement M
