@@ -23,11 +23,13 @@ use Rattle.paper.specs.Tree.{Statements}
 use Rattle.paper.specs.Reader as reader
 use Rattle.paper.specs.Runs.{Store, Holds}
 use Rattle.paper.specs.Answers as answers
+use Rattle.paper.specs.Places as places
+use Rattle.paper.specs.Places.{Placed}
 use Rattle.paper.proofs.Reading.{read-is-code}
 use Rattle.paper.proofs.Places.{Among}
 use Rattle.paper.proofs.Numbers.{Numbered, read, ended, bad, program-numbered}
 use Rattle.paper.proofs.Within.{below}
-use Rattle.paper.proofs.Ends.{Ends, gives, refuses, list-ends}
+use Rattle.paper.proofs.Ends.{Ends, gives, refuses, list-ends, analysed-place}
 use Rattle.paper.proofs.Certain.{certain}
 use Rattle.words.specs.Words.{checked}
 use Rattle.analysis.proofs.Entries.{too-wide, let-in, analysed-unadmitted, analysed-bad, analysed-read}
@@ -159,13 +161,13 @@ module _ (text : List ℕ) where
 abbrev for : ℕ → Answer State → JobAnswer
 for n a = and-then a (λ s. Gives (record { n = n; state = s }))
 
-module _ (ws : List ℕ) (n : ℕ) where
-  refused : {number : ℕ} (place : ℕ) → answers.analysed ws n states.zeros 0 ≡ Refuses number place → 1 ≤ number → number ≤ 10 → (number ≡ 7 → ⊥) → JobAnswered (for n (answers.analysed ws n states.zeros 0))
-  refused {number} place e low high other = subst (λ (a : Answer State). JobAnswered (for n a)) (sym e) (page.refusal number place low high other)
+module _ {text ws : List ℕ} (t : Text text ws) (n : ℕ) where
+  refused : {number : ℕ} (place : ℕ) → answers.analysed ws n states.zeros 0 ≡ Refuses number place → 1 ≤ number → number ≤ 10 → (number ≡ 7 → ⊥) → JobAnswered text (for n (answers.analysed ws n states.zeros 0))
+  refused {number} place e low high other = subst (λ (a : Answer State). JobAnswered text (for n a)) (sym e) (page.refusal number place low high other (page.among t (analysed-place ws n states.zeros 0 refl e)))
 
-  by-the-rules : {first end : ℕ} (a : Answer State) → Ends (Among first end) (Begun n) a → JobAnswered (for n a)
-  by-the-rules a (gives {a = s} b) = page.state (is-state s b)
-  by-the-rules a (refuses k at r) = page.refusal k at (omega (arith, r .low)) (r .high) (λ e. omega (arith, r .low))
+  by-the-rules : {first end : ℕ} (a : Answer State) → answers.analysed ws n states.zeros 0 ≡ a → Ends (Among first end) (Begun n) a → JobAnswered text (for n (answers.analysed ws n states.zeros 0))
+  by-the-rules a e (gives {a = s} b) = subst (λ (a : Answer State). JobAnswered text (for n a)) (sym e) (page.state (is-state s b))
+  by-the-rules a e (refuses k at r) = refused at e (omega (arith, r .low)) (r .high) (λ e. omega (arith, r .low))
 
   module _ (few : length ws ≤ 8192) (small : n ≤ 64) where
     abbrev start : State
@@ -179,33 +181,36 @@ module _ (ws : List ℕ) (n : ℕ) where
     begun : Begun n start
     begun = sure-of (started-begun n states.zeros refl) (let-in ws n 0 states.zeros few small (omega arith) ∙ admitted)
 
-    from-there : (m : reader.Reading Statements) → reader.program ws n ≡ m → Numbered (length ws) m → JobAnswered (for n (answers.analysed ws n states.zeros 0))
+    from-there : (m : reader.Reading Statements) → reader.program ws n ≡ m → Numbered (length ws) m → JobAnswered text (for n (answers.analysed ws n states.zeros 0))
     from-there m e ended = refused (length ws) (analysed-bad ws n 0 states.zeros admitted e) (omega arith) (omega arith) (λ e. omega arith)
     from-there m e (bad k {at} l h inside) = refused at (analysed-bad ws n 0 states.zeros admitted e) (omega arith) (omega arith) (λ e. omega arith)
-    from-there m e (read {a = p} l) = subst (λ (a : Answer State). JobAnswered (for n a)) (sym (analysed-read ws n 0 states.zeros admitted e))
-        (by-the-rules _ (list-ends (record { n = n; unroll = 0 }) small p 1 start (below n (read-is-code ws n e .within)) begun))
+    from-there m e (read {a = p} l) = by-the-rules _ (analysed-read ws n 0 states.zeros admitted e)
+        (list-ends (record { n = n; unroll = 0 }) small p 1 start (below n (read-is-code ws n e .within)) begun)
 
-  zeros-answered : length ws ≤ 8192 → JobAnswered (for n (answers.analysed ws n states.zeros 0))
+  zeros-answered : length ws ≤ 8192 → JobAnswered text (for n (answers.analysed ws n states.zeros 0))
   zeros-answered few = size (decLe n 64)
     where
-      size : Dec (n ≤ 64) → JobAnswered (for n (answers.analysed ws n states.zeros 0))
+      size : Dec (n ≤ 64) → JobAnswered text (for n (answers.analysed ws n states.zeros 0))
       size (yes small) = from-there few small (reader.program ws n) refl (program-numbered ws n)
       size (no large) = refused 0 (analysed-unadmitted ws n 0 states.zeros (sym (too-wide ws n 0 states.zeros few (omega arith)))) (omega arith) (omega arith) (λ e. omega arith)
 
-ran-answered : (ws : List ℕ) → length ws ≤ 8192 → JobAnswered (answers.ran ws)
+ran-answered : {text ws : List ℕ} → Text text ws → length ws ≤ 8192 → JobAnswered text (answers.ran ws)
 unfolding checked
-ran-answered ws few = go (reader.program ws 64) refl (program-numbered ws 64)
+ran-answered {text} {ws} t few = go (reader.program ws 64) refl (program-numbered ws 64)
   where
-    go : (m : reader.Reading Statements) → reader.program ws 64 ≡ m → Numbered (length ws) m → JobAnswered (answers.ran ws)
-    go m e ended = subst JobAnswered (sym (ran-bad ws few (sym (ap checked e)))) (page.refusal 3 (length ws) (omega arith) (omega arith) (λ e. omega arith))
-    go m e (bad k {at} l h inside) = subst JobAnswered (sym (ran-bad ws few (sym (ap checked e)))) (page.refusal k at (omega arith) (omega arith) (λ e. omega arith))
-    go m e (read l) = subst JobAnswered (sym (ran-sound ws few (sym (ap checked e)))) (zeros-answered ws _ few)
+    unread : {k at : ℕ} → answers.ran ws ≡ Refuses k at → 3 ≤ k → k ≤ 6 → Placed (length ws) 64 k at → JobAnswered text (answers.ran ws)
+    unread {k} {at} e low high p = subst (JobAnswered text) (sym e) (page.refusal k at (omega arith) (omega arith) (λ e. omega arith) (page.among t p))
 
-job-answered : (text : List ℕ) (a : JobAnswer) → TextAnswered text a → JobAnswered a
-job-answered text a (page.too-long h) = page.refusal 2 0 (omega arith) (omega arith) (λ e. omega arith)
-job-answered text a (page.no-text {place = place} h none longest) = page.refusal 1 place (omega arith) (omega arith) (λ e. omega arith)
-job-answered text a (page.too-many h t many) = page.refusal 2 0 (omega arith) (omega arith) (λ e. omega arith)
-job-answered text a (page.words {vs = vs} h t few) = ran-answered vs few
+    go : (m : reader.Reading Statements) → reader.program ws 64 ≡ m → Numbered (length ws) m → JobAnswered text (answers.ran ws)
+    go m e ended = unread (ran-bad ws few (sym (ap checked e))) (omega arith) (omega arith) places.short
+    go m e (bad k {at} l h inside) = unread (ran-bad ws few (sym (ap checked e))) (omega arith) (omega arith) (places.word k at (omega arith) (omega arith) (λ e. omega arith) inside)
+    go m e (read l) = subst (JobAnswered text) (sym (ran-sound ws few (sym (ap checked e)))) (zeros-answered t _ few)
+
+job-answered : (text : List ℕ) (a : JobAnswer) → TextAnswered text a → JobAnswered text a
+job-answered text a (page.too-long h) = page.refusal 2 0 (omega arith) (omega arith) (λ e. omega arith) page.too-much
+job-answered text a (page.no-text {place = place} h none longest) = page.refusal 1 place (omega arith) (omega arith) (λ e. omega arith) (page.broken longest)
+job-answered text a (page.too-many h t many) = page.refusal 2 0 (omega arith) (omega arith) (λ e. omega arith) page.too-much
+job-answered text a (page.words {vs = vs} h t few) = ran-answered t few
 
 -- ---- every run ends inside
 

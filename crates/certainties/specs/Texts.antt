@@ -10,6 +10,7 @@ use Rattle.states.specs.States as states
 use Rattle.paper.specs.Limits.{IsProgram}
 use Rattle.paper.specs.Runs.{Store, Runs, Holds}
 use Rattle.paper.specs.Answers as answers
+use Rattle.paper.specs.Places.{Placed}
 use Rattle.text.specs.declared.Reading.{Reading}
 use Rattle.text.specs.declared.Reading.the-variants as reading-is
 use Rattle.text.specs.declared.Printed.{Printed}
@@ -63,10 +64,19 @@ pub data TextAnswered (text : List ℕ) : JobAnswer → Type 0 where
   too-many : {vs : List ℕ} → length text ≤ 65536 → Text text vs → 8192 < length vs → TextAnswered text (Refuses 2 0)
   words : {vs : List ℕ} → length text ≤ 65536 → Text text vs → length vs ≤ 8192 → TextAnswered text (answers.ran vs)
 
+-- where the refusal of a text lies: document 01, "Answers by number", the column "Place"
+pub data InText (text : List ℕ) : (number place : ℕ) → Type 0 where
+  -- "length of the longest prefix that such a text can begin with"
+  broken : {place : ℕ} → Longest text place → InText text 1 place
+  -- 0 for what is too long, or too much
+  too-much : InText text 2 0
+  -- any other is where it lies among the text's numbers as words
+  among : {vs : List ℕ} {n number place : ℕ} → Text text vs → Placed (length vs) n number place → InText text number place
+
 -- "a range for each variable, the answer empty, or one numbered refusal with its place"; never 7, since every variable starts at [0,0]
-pub data JobAnswered : JobAnswer → Type 0 where
-  state : {o : answers.Outcome} → IsState (o .n) (o .state) → JobAnswered (Gives o)
-  refusal : (number place : ℕ) → 1 ≤ number → number ≤ 10 → (number ≡ 7 → ⊥) → JobAnswered (Refuses number place)
+pub data JobAnswered (text : List ℕ) : JobAnswer → Type 0 where
+  state : {o : answers.Outcome} → IsState (o .n) (o .state) → JobAnswered text (Gives o)
+  refusal : (number place : ℕ) → 1 ≤ number → number ≤ 10 → (number ≡ 7 → ⊥) → InText text number place → JobAnswered text (Refuses number place)
 
 -- what is certain where ranges (or empty) come back: the text's numbers are a program, and every run of it from variables that are all 0 ends inside them
 pub record TextCertain (text : List ℕ) (o : answers.Outcome) : Type 0 where
@@ -83,7 +93,7 @@ pub record OfTexts : Type 0 where
   pub line : (answer : Answer) (n : ℕ) (out : List ℕ) (r : Printed) (after : List ℕ) → Line answer n out r after → LineAnswered (lines.line n (of-answer answer)) out r after
   -- every text has an answer, one only, and it is what certainty 1 says; the line is that of the answer
   pub answer : (text : List ℕ) → One (TextAnswered text)
-  pub answered : (text : List ℕ) (a : JobAnswer) → TextAnswered text a → JobAnswered a
+  pub answered : (text : List ℕ) (a : JobAnswer) → TextAnswered text a → JobAnswered text a
   pub run : (text out : List ℕ) (r : Printed) (after : List ℕ) (a : JobAnswer) → Run text out r after → TextAnswered text a → LineAnswered (job.line-of a) out r after
   -- certainty 3
   pub certain : (text : List ℕ) (o : answers.Outcome) → TextAnswered text (Gives o) → TextCertain text o
