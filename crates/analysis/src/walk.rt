@@ -180,6 +180,12 @@ fn branch(
     }
     let x = a.state;
     let y = b.state;
+    if !x.live {
+        return states::good(y);
+    }
+    if !y.live {
+        return states::good(x);
+    }
     let joined = states::join(x, y, n);
     states::good(joined)
 }
@@ -239,7 +245,11 @@ fn search(
         }
         let next = p.next;
         let exit = p.exit;
-        exits = states::join(exits, exit, n);
+        if !exits.live {
+            exits = exit;
+        } else if exit.live {
+            exits = states::join(exits, exit, n);
+        }
         if states::same(s, next, n) {
             break Found::At(i);
         }

@@ -7,9 +7,10 @@ use Prim.Native.Nat.{_^_, suc, _+_, _-_, _≤_, _*_, ℕ, _<_}
 use native.Mathlib.Omega.{arith}
 use lib.ListN.{length, take, drop, getD, length-set}
 use borrow.Author.Needs.{needs}
+use borrow.Author.Tests.{not-true, not-false}
 use borrow.Fn.Kinds.{In}
 use borrow.Fn.PlainCycle.{Measures, is, falls, and}
-use Rattle.states.proofs.Passed.{state-long}
+use Rattle.states.proofs.Passed.{state-long, join-from-empty, join-with-empty}
 use Rattle.states.proofs.Cells.{there}
 use Rattle.states.specs.declared.Cell.{Cell}
 use Rattle.states.specs.States as states
@@ -206,7 +207,7 @@ unrolled-below t =
 
 abbrev branch-claims : ℕ → branch-lts.Claims
 branch-claims t =
-    (event-end-reads.Asked, event-end-reads.Learnt, list-end-reads.Asked, list-end-reads.Learnt, sides-reads.Asked, sides-reads.Learnt, refused-reads.Asked, refused-reads.Learnt, mark-reads.Asked, mark-reads.Learnt, list-below t, list.Post, join-reads.Asked, join-reads.Learnt, good-reads.Asked, good-reads.Learnt)
+    (event-end-reads.Asked, event-end-reads.Learnt, list-end-reads.Asked, list-end-reads.Learnt, sides-reads.Asked, sides-reads.Learnt, refused-reads.Asked, refused-reads.Learnt, mark-reads.Asked, mark-reads.Learnt, list-below t, list.Post, good-reads.Asked, good-reads.Learnt, join-reads.Asked, join-reads.Learnt)
 
 abbrev growing-claims : ℕ → growing-lts.Claims
 growing-claims t =
@@ -425,26 +426,66 @@ branch-returns-3 t c =
 branch-enum-told-5 : (t : ℕ) → branch-lts.Need-enum-told-5 (branch-claims t) (branch-at t) branch.Post
 branch-enum-told-5 t c = search needs
 
-branch-join-requires : (t : ℕ) → branch-lts.Need-join-requires (branch-claims t) (branch-at t) branch.Post
-branch-join-requires t c κs = tt
-
 branch-good-requires : (t : ℕ) → branch-lts.Need-good-requires (branch-claims t) (branch-at t) branch.Post
 branch-good-requires t c κs = tt
 
 branch-same-length-3 : (t : ℕ) → branch-lts.Need-same-length-3 (branch-claims t) (branch-at t) branch.Post
-branch-same-length-3 t c = c .before .before .before .before .before .before .before .before .list2 .kept .1 .1 .1 .1 .1 .0 ∙ c .before .before .before .before .before .before .before .before .before .before .before .before .before .mark2 .kept .0 ∙ c .before .before .before .before .before .before .before .before .before .before .before .before .before .before .before .before .before .before .before .list .kept .1 .1 .1 .1 .1 .0 ∙ c .before .before .before .before .before .before .before .before .before .before .before .before .before .before .before .before .before .before .before .before .before .before .before .before .mark .kept .0
+branch-same-length-3 t c = c .before .before .before .before .before .before .before .before .before .list2 .kept .1 .1 .1 .1 .1 .0 ∙ c .before .before .before .before .before .before .before .before .before .before .before .before .before .before .mark2 .kept .0 ∙ c .before .before .before .before .before .before .before .before .before .before .before .before .before .before .before .before .before .before .before .before .list .kept .1 .1 .1 .1 .1 .0 ∙ c .before .before .before .before .before .before .before .before .before .before .before .before .before .before .before .before .before .before .before .before .before .before .before .before .before .mark .kept .0
 
 branch-returns-4 : (t : ℕ) → branch-lts.Need-returns-4 (branch-claims t) (branch-at t) branch.Post
 branch-returns-4 t c =
     λ x h.
-    let s = c .before .before .before .before .before .before .before .before .before .before .before .before .before .before .before .before .before .before .before .before .before .before .before .before .before .before .before .before .before .before .before .before .before .before .before .before in
+    let s = c .before .before .before .before .before .before .before .before .before .before .before .before .before .before .before .before .before .before .before .before .before .before .before .before .before .before .before .before .before .before .before .before .before .before .before .before .before in
     let g = setting (s .args .n) (s .args .unroll) in
-    let k = branch-parts t (c .before .before .before .before .before .before .before .before .before .before .before .before .before .before .before .before .before .before .before .before .before .before .before .before .before .before .before .before .before .before .before .before) x h in
-    let o = c .before .before .before .before .before .before .before .before .before .before .before .before .before .before .before .before .before .before .before .before .before .before .before .before .before .before .before .before .before .before .sides .ensures (s .args .unroll) (k .event) (k .event-part) in
-    let w = c .before .before .before .before .before .before .before .before .before .before .before .before .before .before .before .before .before .before .before .list .ensures (k .then-list) (k .then-part) in
-    let v = c .before .before .before .before .before .before .before .before .list2 .ensures (k .else-list) (k .else-part) in
-    let j = walks.if-joined g (s .args .base) k (s .args .state) (c .before .before .before .before .before .before .before .before .before .before .before .before .before .before .before .before .before .before .before .before .before .before .before .before .before .before .before .before .before .before .sides .result) o (s .args .marks .now) (c .before .before .before .before .before .before .before .before .before .before .before .before .before .before .before .before .before .before .before .before .before .before .before .before .before .before .before .before .enum-told .given .1) (c .before .before .before .before .before .before .before .before .before .before .before .before .before .before .before .before .before .before .before .before .before .before .before .before .mark .ensures) w (c .before .before .before .before .before .before .before .before .before .before .before .before .before .before .before .enum-told3 .given .1) (c .before .before .before .before .before .before .before .before .before .before .before .before .before .mark2 .ensures) v (c .before .before .before .before .enum-told5 .given .1) in
-    record { out = c .good2 .ensures ∙ ap (λ (z : State). answered (Gives z)) (c .before .join .ensures) ∙ j .out; marks = j .marks }
+    let k = branch-parts t (c .before .before .before .before .before .before .before .before .before .before .before .before .before .before .before .before .before .before .before .before .before .before .before .before .before .before .before .before .before .before .before .before .before) x h in
+    let o = c .before .before .before .before .before .before .before .before .before .before .before .before .before .before .before .before .before .before .before .before .before .before .before .before .before .before .before .before .before .before .before .sides .ensures (s .args .unroll) (k .event) (k .event-part) in
+    let w = c .before .before .before .before .before .before .before .before .before .before .before .before .before .before .before .before .before .before .before .before .list .ensures (k .then-list) (k .then-part) in
+    let v = c .before .before .before .before .before .before .before .before .before .list2 .ensures (k .else-list) (k .else-part) in
+    let j = walks.if-joined g (s .args .base) k (s .args .state) (c .before .before .before .before .before .before .before .before .before .before .before .before .before .before .before .before .before .before .before .before .before .before .before .before .before .before .before .before .before .before .before .sides .result) o (s .args .marks .now) (c .before .before .before .before .before .before .before .before .before .before .before .before .before .before .before .before .before .before .before .before .before .before .before .before .before .before .before .before .before .enum-told .given .1) (c .before .before .before .before .before .before .before .before .before .before .before .before .before .before .before .before .before .before .before .before .before .before .before .before .before .mark .ensures) w (c .before .before .before .before .before .before .before .before .before .before .before .before .before .before .before .before .enum-told3 .given .1) (c .before .before .before .before .before .before .before .before .before .before .before .before .before .before .mark2 .ensures) v (c .before .before .before .before .before .enum-told5 .given .1) in
+    let first = c .before .before .before .before .before .before .before .before .before .before .before .before .before .before .before .before .before .before .before .before .list .result .state in
+    let second = c .before .before .before .before .before .before .before .before .before .list2 .result .state in
+    record { out = c .good2 .ensures ∙ ap (λ (z : State). answered (Gives z)) (join-from-empty (s .args .n) first second (not-true (first .live) (c .before .if1 .taken))) ∙ j .out; marks = j .marks }
+
+branch-good-requires-2 : (t : ℕ) → branch-lts.Need-good-requires-2 (branch-claims t) (branch-at t) branch.Post
+branch-good-requires-2 t c κs = tt
+
+branch-same-length-4 : (t : ℕ) → branch-lts.Need-same-length-4 (branch-claims t) (branch-at t) branch.Post
+branch-same-length-4 t c = c .before .before .before .before .before .before .before .before .before .before .before .list2 .kept .1 .1 .1 .1 .1 .0 ∙ c .before .before .before .before .before .before .before .before .before .before .before .before .before .before .before .before .mark2 .kept .0 ∙ c .before .before .before .before .before .before .before .before .before .before .before .before .before .before .before .before .before .before .before .before .before .before .list .kept .1 .1 .1 .1 .1 .0 ∙ c .before .before .before .before .before .before .before .before .before .before .before .before .before .before .before .before .before .before .before .before .before .before .before .before .before .before .before .mark .kept .0
+
+branch-returns-5 : (t : ℕ) → branch-lts.Need-returns-5 (branch-claims t) (branch-at t) branch.Post
+branch-returns-5 t c =
+    λ x h.
+    let s = c .before .before .before .before .before .before .before .before .before .before .before .before .before .before .before .before .before .before .before .before .before .before .before .before .before .before .before .before .before .before .before .before .before .before .before .before .before .before .before in
+    let g = setting (s .args .n) (s .args .unroll) in
+    let k = branch-parts t (c .before .before .before .before .before .before .before .before .before .before .before .before .before .before .before .before .before .before .before .before .before .before .before .before .before .before .before .before .before .before .before .before .before .before .before) x h in
+    let o = c .before .before .before .before .before .before .before .before .before .before .before .before .before .before .before .before .before .before .before .before .before .before .before .before .before .before .before .before .before .before .before .before .before .sides .ensures (s .args .unroll) (k .event) (k .event-part) in
+    let w = c .before .before .before .before .before .before .before .before .before .before .before .before .before .before .before .before .before .before .before .before .before .before .list .ensures (k .then-list) (k .then-part) in
+    let v = c .before .before .before .before .before .before .before .before .before .before .before .list2 .ensures (k .else-list) (k .else-part) in
+    let j = walks.if-joined g (s .args .base) k (s .args .state) (c .before .before .before .before .before .before .before .before .before .before .before .before .before .before .before .before .before .before .before .before .before .before .before .before .before .before .before .before .before .before .before .before .before .sides .result) o (s .args .marks .now) (c .before .before .before .before .before .before .before .before .before .before .before .before .before .before .before .before .before .before .before .before .before .before .before .before .before .before .before .before .before .before .before .enum-told .given .1) (c .before .before .before .before .before .before .before .before .before .before .before .before .before .before .before .before .before .before .before .before .before .before .before .before .before .before .before .mark .ensures) w (c .before .before .before .before .before .before .before .before .before .before .before .before .before .before .before .before .before .before .enum-told3 .given .1) (c .before .before .before .before .before .before .before .before .before .before .before .before .before .before .before .before .mark2 .ensures) v (c .before .before .before .before .before .before .before .enum-told5 .given .1) in
+    let first = c .before .before .before .before .before .before .before .before .before .before .before .before .before .before .before .before .before .before .before .before .before .before .list .result .state in
+    let second = c .before .before .before .before .before .before .before .before .before .before .before .list2 .result .state in
+    record { out = c .good3 .ensures ∙ ap (λ (z : State). answered (Gives z)) (join-with-empty (s .args .n) first second (not-false (first .live) (c .before .before .before .if1 .left)) (not-true (second .live) (c .before .if2 .taken))) ∙ j .out; marks = j .marks }
+
+branch-join-requires : (t : ℕ) → branch-lts.Need-join-requires (branch-claims t) (branch-at t) branch.Post
+branch-join-requires t c κs = tt
+
+branch-good-requires-3 : (t : ℕ) → branch-lts.Need-good-requires-3 (branch-claims t) (branch-at t) branch.Post
+branch-good-requires-3 t c κs = tt
+
+branch-same-length-5 : (t : ℕ) → branch-lts.Need-same-length-5 (branch-claims t) (branch-at t) branch.Post
+branch-same-length-5 t c = c .before .before .before .before .before .before .before .before .before .before .before .before .list2 .kept .1 .1 .1 .1 .1 .0 ∙ c .before .before .before .before .before .before .before .before .before .before .before .before .before .before .before .before .before .mark2 .kept .0 ∙ c .before .before .before .before .before .before .before .before .before .before .before .before .before .before .before .before .before .before .before .before .before .before .before .list .kept .1 .1 .1 .1 .1 .0 ∙ c .before .before .before .before .before .before .before .before .before .before .before .before .before .before .before .before .before .before .before .before .before .before .before .before .before .before .before .before .mark .kept .0
+
+branch-returns-6 : (t : ℕ) → branch-lts.Need-returns-6 (branch-claims t) (branch-at t) branch.Post
+branch-returns-6 t c =
+    λ x h.
+    let s = c .before .before .before .before .before .before .before .before .before .before .before .before .before .before .before .before .before .before .before .before .before .before .before .before .before .before .before .before .before .before .before .before .before .before .before .before .before .before .before .before in
+    let g = setting (s .args .n) (s .args .unroll) in
+    let k = branch-parts t (c .before .before .before .before .before .before .before .before .before .before .before .before .before .before .before .before .before .before .before .before .before .before .before .before .before .before .before .before .before .before .before .before .before .before .before .before) x h in
+    let o = c .before .before .before .before .before .before .before .before .before .before .before .before .before .before .before .before .before .before .before .before .before .before .before .before .before .before .before .before .before .before .before .before .before .before .sides .ensures (s .args .unroll) (k .event) (k .event-part) in
+    let w = c .before .before .before .before .before .before .before .before .before .before .before .before .before .before .before .before .before .before .before .before .before .before .before .list .ensures (k .then-list) (k .then-part) in
+    let v = c .before .before .before .before .before .before .before .before .before .before .before .before .list2 .ensures (k .else-list) (k .else-part) in
+    let j = walks.if-joined g (s .args .base) k (s .args .state) (c .before .before .before .before .before .before .before .before .before .before .before .before .before .before .before .before .before .before .before .before .before .before .before .before .before .before .before .before .before .before .before .before .before .before .sides .result) o (s .args .marks .now) (c .before .before .before .before .before .before .before .before .before .before .before .before .before .before .before .before .before .before .before .before .before .before .before .before .before .before .before .before .before .before .before .before .enum-told .given .1) (c .before .before .before .before .before .before .before .before .before .before .before .before .before .before .before .before .before .before .before .before .before .before .before .before .before .before .before .before .mark .ensures) w (c .before .before .before .before .before .before .before .before .before .before .before .before .before .before .before .before .before .before .before .enum-told3 .given .1) (c .before .before .before .before .before .before .before .before .before .before .before .before .before .before .before .before .before .mark2 .ensures) v (c .before .before .before .before .before .before .before .before .enum-told5 .given .1) in
+    record { out = c .good4 .ensures ∙ ap (λ (z : State). answered (Gives z)) (c .before .join .ensures) ∙ j .out; marks = j .marks }
 
 abbrev growing-Inv-loop : growing-lts.InvT-loop
 growing-Inv-loop words base n unroll widening most marks₀ s₀ i₀ marks s i =
@@ -1516,28 +1557,41 @@ search-enum-told t c = search needs
 search-join-requires : (t : ℕ) → search-lts.Need-join-requires (search-claims t) (search-at t) search′.Post search-Inv-loop search-μ-loop
 search-join-requires t c κs = tt
 
+-- the exits so far joined with that of the pass: join's own two ways past an empty state, or join
+search-joined : (t : ℕ) (c : search-lts.Joined2 (search-claims t) (search-at t) search′.Post search-Inv-loop search-μ-loop) → c .if2 .exits ≡ states.join (c .before .before .before .before .before .before .before .before .before .before .before .before .before .before .before .args .n) (c .before .before .before .before .before .before .before .before .before .before .before .loop .exits) (c .before .before .before .before .before .before .before .before .pass .result .exit)
+search-joined t c =
+    let n = c .before .before .before .before .before .before .before .before .before .before .before .before .before .before .before .args .n in
+    let exits = c .before .before .before .before .before .before .before .before .before .before .before .loop .exits in
+    let exit = c .before .before .before .before .before .before .before .before .pass .result .exit in
+    ⊎-elim
+    (λ w. w .1 ∙ join-from-empty n exits exit (not-true (exits .live) (w .0 .taken)))
+    (⊎-elim
+    (λ w. w .3 ∙ w .2 .ensures)
+    (λ w. w .2 ∙ join-with-empty n exits exit (not-false (exits .live) (w .0 .left)) (w .1 .left)))
+    (c .if2 .came)
+
 search-same-requires : (t : ℕ) → search-lts.Need-same-requires (search-claims t) (search-at t) search′.Post search-Inv-loop search-μ-loop
 search-same-requires t c κs = tt
 
 search-add-i : (t : ℕ) → search-lts.Need-add-i (search-claims t) (search-at t) search′.Post search-Inv-loop search-μ-loop
-search-add-i t c = let ne = c .before .before .before .before .before .before .before .before .before .before .before .if1 .left in omega (arith, c .before .before .before .before .before .before .before .before .before .before .before .before .loop .inv .0)
+search-add-i t c = let ne = c .before .before .before .before .before .before .before .before .before .before .before .before .if1 .left in omega (arith, c .before .before .before .before .before .before .before .before .before .before .before .before .before .loop .inv .0)
 
 search-loop-less : (t : ℕ) → search-lts.Need-loop-less (search-claims t) (search-at t) search′.Post search-Inv-loop search-μ-loop
-search-loop-less t c = let ne = c .before .before .before .before .before .before .before .before .before .before .before .if1 .left in omega (arith, c .before .before .before .before .before .before .before .before .before .before .before .before .loop .inv .0)
+search-loop-less t c = let ne = c .before .before .before .before .before .before .before .before .before .before .before .before .if1 .left in omega (arith, c .before .before .before .before .before .before .before .before .before .before .before .before .before .loop .inv .0)
 
 search-loop-again : (t : ℕ) → search-lts.Need-loop-again (search-claims t) (search-at t) search′.Post search-Inv-loop search-μ-loop
 search-loop-again t c = (
-  let ne = c .before .before .before .before .before .before .before .before .before .before .before .if1 .left in omega (arith, c .before .before .before .before .before .before .before .before .before .before .before .before .loop .inv .0),
+  let ne = c .before .before .before .before .before .before .before .before .before .before .before .before .if1 .left in omega (arith, c .before .before .before .before .before .before .before .before .before .before .before .before .before .loop .inv .0),
   (
-    c .before .before .before .before .before .before .before .before .before .pass .kept .1 .1 .1 .1 .1 .0 ∙ c .before .before .before .before .before .before .before .before .before .before .before .before .loop .inv .1 .0,
+    c .before .before .before .before .before .before .before .before .before .before .pass .kept .1 .1 .1 .1 .1 .0 ∙ c .before .before .before .before .before .before .before .before .before .before .before .before .before .loop .inv .1 .0,
     λ u e b h.
-        let s = c .before .before .before .before .before .before .before .before .before .before .before .before .before .before .before .before in
-        let l = c .before .before .before .before .before .before .before .before .before .before .before .before .loop in
+        let s = c .before .before .before .before .before .before .before .before .before .before .before .before .before .before .before .before .before in
+        let l = c .before .before .before .before .before .before .before .before .before .before .before .before .before .loop in
         let g = setting (s .args .n) (s .args .unroll) in
-        let q = c .before .before .before .before .before .before .before .before .before .pass .ensures u e b h in
-        let ne = c .before .before .before .before .before .before .before .before .before .before .before .if1 .left in
+        let q = c .before .before .before .before .before .before .before .before .before .before .pass .ensures u e b h in
+        let ne = c .before .before .before .before .before .before .before .before .before .before .before .before .if1 .left in
         let more : 100 - l .i ≡ suc (100 - (l .i + 1)) = omega (arith, l .inv .0) in
-        rw (c .before .before .join .ensures) (leads-then (l .inv .1 .1 u e b h) (turns-laws.search-on g (s .args .base) e b (100 - l .i) (100 - (l .i + 1)) more (l .s) q (l .exits) (l .i) (c .before .before .before .before .before .enum-told .given .1) (sym (c .before .same .ensures) ∙ c .if2 .left))),
+        rw (search-joined t (c .before .before)) (leads-then (l .inv .1 .1 u e b h) (turns-laws.search-on g (s .args .base) e b (100 - l .i) (100 - (l .i + 1)) more (l .s) q (l .exits) (l .i) (c .before .before .before .before .before .before .enum-told .given .1) (sym (c .before .same .ensures) ∙ c .if4 .left))),
   ),
 )
 
@@ -1554,18 +1608,18 @@ search-returns-2 t c =
     rw (← c .before .before .empty .ensures) (l .inv .1 .1 u e b h .on _ _ (turns-laws.search-none g (s .args .base) e b (100 - l .i) none (l .i) (record { next = l .s; exit = l .exits }) (l .marks)))
 
 search-same-length-3 : (t : ℕ) → search-lts.Need-same-length-3 (search-claims t) (search-at t) search′.Post search-Inv-loop search-μ-loop
-search-same-length-3 t c = c .before .before .before .before .before .before .before .before .before .pass .kept .1 .1 .1 .1 .1 .0 ∙ c .before .before .before .before .before .before .before .before .before .before .before .before .loop .inv .1 .0
+search-same-length-3 t c = c .before .before .before .before .before .before .before .before .before .before .pass .kept .1 .1 .1 .1 .1 .0 ∙ c .before .before .before .before .before .before .before .before .before .before .before .before .before .loop .inv .1 .0
 
 search-returns-3 : (t : ℕ) → search-lts.Need-returns-3 (search-claims t) (search-at t) search′.Post search-Inv-loop search-μ-loop
 search-returns-3 t c =
     λ u e b h.
-    let s = c .before .before .before .before .before .before .before .before .before .before .before .before .before .before .before .before in
-    let l = c .before .before .before .before .before .before .before .before .before .before .before .before .loop in
+    let s = c .before .before .before .before .before .before .before .before .before .before .before .before .before .before .before .before .before in
+    let l = c .before .before .before .before .before .before .before .before .before .before .before .before .before .loop in
     let g = setting (s .args .n) (s .args .unroll) in
-    let q = c .before .before .before .before .before .before .before .before .before .pass .ensures u e b h in
-    let ne = c .before .before .before .before .before .before .before .before .before .before .before .if1 .left in
+    let q = c .before .before .before .before .before .before .before .before .before .before .pass .ensures u e b h in
+    let ne = c .before .before .before .before .before .before .before .before .before .before .before .before .if1 .left in
     let more : 100 - l .i ≡ suc (100 - (l .i + 1)) = omega (arith, l .inv .0) in
-    rw (← c .before .before .before .before .before .before .before .before .before .before .before .before .before .empty .ensures, c .before .before .join .ensures) (l .inv .1 .1 u e b h .on _ _ (turns-laws.search-found g (s .args .base) e b (100 - l .i) (100 - (l .i + 1)) more (l .s) q (l .exits) (l .i) (c .before .before .before .before .before .enum-told .given .1) (sym (c .before .same .ensures) ∙ c .if2 .taken)))
+    rw (← c .before .before .before .before .before .before .before .before .before .before .before .before .before .before .empty .ensures, search-joined t (c .before .before)) (l .inv .1 .1 u e b h .on _ _ (turns-laws.search-found g (s .args .base) e b (100 - l .i) (100 - (l .i + 1)) more (l .s) q (l .exits) (l .i) (c .before .before .before .before .before .before .enum-told .given .1) (sym (c .before .same .ensures) ∙ c .if4 .taken)))
 
 settle-growing-requires : (t : ℕ) → settle-lts.Need-growing-requires (settle-claims t) (settle-at t) settle.Post
 settle-growing-requires t c κs =
@@ -1937,10 +1991,16 @@ pub +branch+growing+list+looped+normalize+onward+pass+search+settle+statement+un
     (branch-same-length-2 t)
     (branch-returns-3 t)
     (branch-enum-told-5 t)
-    (branch-join-requires t)
     (branch-good-requires t)
     (branch-same-length-3 t)
-    (branch-returns-4 t))
+    (branch-returns-4 t)
+    (branch-good-requires-2 t)
+    (branch-same-length-4 t)
+    (branch-returns-5 t)
+    (branch-join-requires t)
+    (branch-good-requires-3 t)
+    (branch-same-length-5 t)
+    (branch-returns-6 t))
     (λ t. growing-lts.spec (growing-claims t) (growing-at t) growing.Post growing-Inv-loop growing-μ-loop
     (growing-loop-holds t)
     (growing-pass-requires t)
