@@ -180,6 +180,7 @@ fn branch(
     }
     let x = a.state;
     let y = b.state;
+    // Past an empty state with no call of join, which would copy both.
     if !x.live {
         return states::good(y);
     }
@@ -245,6 +246,7 @@ fn search(
         }
         let next = p.next;
         let exit = p.exit;
+        // Past an empty state with no call of join, which would copy both.
         if !exits.live {
             exits = exit;
         } else if exit.live {
