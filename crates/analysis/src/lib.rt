@@ -1,4 +1,6 @@
 // The analysis: lists, statements, loops and normalize over checked words.
+#![tactic(auto)]
+
 mod entry;
 mod outcomes;
 mod plain;
@@ -13,7 +15,7 @@ ghost use Rattle.states.specs.Answers.{answered};
 use states::{Answer, Start, State, Verdict};
 
 // One pass over a loop: the new state at its head, and the exit. Those of a refusal are empty.
-#[derive(Drop)]
+#[derive(Clone, Copy)]
 pub struct Pass {
     pub verdict: Verdict,
     pub next: State,
@@ -21,7 +23,7 @@ pub struct Pass {
 }
 
 // What the search finds: the first index whose new state equals the old, none, or a refusal.
-#[derive(Drop)]
+#[derive(Clone, Copy)]
 pub enum Found {
     At(usize),
     Nowhere,
@@ -29,7 +31,7 @@ pub enum Found {
 }
 
 // What the search finds, the state that its last pass set out from, and the exits of all its passes joined. Those of a refusal are empty.
-#[derive(Drop)]
+#[derive(Clone, Copy)]
 pub struct Sought {
     pub found: Found,
     pub turned: State,
@@ -37,7 +39,7 @@ pub struct Sought {
 }
 
 // A state that a stage came to after so many passes, settled or not. That of a refusal is empty, after none.
-#[derive(Drop)]
+#[derive(Clone, Copy)]
 pub struct Settling {
     pub verdict: Verdict,
     pub settled: bool,
@@ -46,7 +48,7 @@ pub struct Settling {
 }
 
 // The state that joining and widening settle on, and how many passes each took. That of a refusal is empty, after none.
-#[derive(Drop)]
+#[derive(Clone, Copy)]
 pub struct Settled {
     pub verdict: Verdict,
     pub state: State,
@@ -56,7 +58,7 @@ pub struct Settled {
 
 // What the analysis of a loop gives: its result, the state after the unrolled turns, the settled state and the four counts of passes.
 // A refusal hands back empty states and no counts.
-#[derive(Drop)]
+#[derive(Clone, Copy)]
 pub struct LoopAnswer {
     pub verdict: Verdict,
     pub exits: State,
@@ -69,7 +71,7 @@ pub struct LoopAnswer {
 }
 
 // The values of a given variable: none that can be enumerated, more than 4,096, or so many from a start on.
-#[derive(Drop)]
+#[derive(Clone, Copy)]
 pub enum Values {
     Unbounded,
     TooMany,
@@ -77,7 +79,7 @@ pub enum Values {
 }
 
 // An answer, and for each word whether it is the count of a list that was entered with a state that is not empty. All clear on a refusal.
-#[derive(Drop)]
+#[derive(Clone, Copy)]
 pub struct Marked {
     pub answer: Answer,
     pub marks: [u8; 8192],

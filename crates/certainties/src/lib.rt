@@ -1,5 +1,7 @@
 // The page of the three certainties, held to the code: each function hands on the answer of the library's function of its name,
 // and its contract is the page's equation for that answer. None is called: they stand here for their contracts.
+#![tactic(auto)]
+
 ghost use Rattle.std.specs.Prelude.{◌≡◌, length};
 ghost use Rattle.certainties.specs.Certainties.{Analyse, AnalyseMarked, AnalyseLoop, Check, Used};
 ghost use Rattle.certainties.specs.Texts.{Read, Line, Run, RunMarked, RunLoop};

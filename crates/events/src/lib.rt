@@ -1,4 +1,6 @@
 // Draws and events: the range of a draw, and both sides of an event.
+#![tactic(auto)]
+
 pub mod draws;
 pub mod event;
 
@@ -6,7 +8,7 @@ use ranges::Range;
 use states::{State, Verdict};
 
 // The true and the false side of an event. Those of a refusal are empty.
-#[derive(Drop)]
+#[derive(Clone, Copy)]
 pub struct Sides {
     pub verdict: Verdict,
     pub yes: State,
@@ -14,7 +16,7 @@ pub struct Sides {
 }
 
 // What retain and remove leave of a range. Those of a refusal are Empty.
-#[derive(Drop)]
+#[derive(Clone, Copy)]
 pub struct Parted {
     pub verdict: Verdict,
     pub kept: Range,

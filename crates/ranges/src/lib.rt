@@ -1,4 +1,6 @@
 // Ranges of whole numbers: what a counter can hold.
+#![tactic(auto)]
+
 pub mod arithmetic;
 pub mod sets;
 
@@ -6,14 +8,14 @@ ghost use Rattle.std.specs.Prelude.{◌≡◌, min as least, max as most};
 ghost use Rattle.ranges.specs.Ranges.{point, naturals, is_empty, crossed, join_ends, join, within_ends, within, same_ends, same, widen_ends, widen};
 
 // Where a range ends: at a number, or nowhere.
-#[derive(Drop)]
+#[derive(Clone, Copy)]
 pub enum End {
     At(u32),
     Open,
 }
 
 // The values that a variable can take: none, or those from a start to an end.
-#[derive(Drop)]
+#[derive(Clone, Copy)]
 pub enum Range {
     Empty,
     Span(u32, End),
@@ -23,7 +25,7 @@ pub enum Range {
 pub const TOP: u64 = 4294967295;
 
 // A range, or that a number passed 4294967295 on the way to it.
-#[derive(Drop)]
+#[derive(Clone, Copy)]
 pub enum Bounded {
     Is(Range),
     Over,

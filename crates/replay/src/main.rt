@@ -1,5 +1,7 @@
 // Replays the recorded list: two lines for each program, its text and the line that is to be printed.
 // Prints each program whose line is another, and how many agree and how many differ.
+#![tactic(auto)]
+
 ghost use Rattle.std.specs.Prelude.{◌≡◌, true, ◌≤◌, length};
 ghost use Rattle.replay.specs.Records.{Line, Prints, Replayed};
 ghost use Rattle.replay.specs.Records.{next as Records·next};
@@ -7,7 +9,7 @@ ghost use Rattle.replay.specs.Records.{next as Records·next};
 use text::Printed;
 
 // How many recorded lines are the printed ones, and how many are not.
-#[derive(Drop)]
+#[derive(Clone, Copy)]
 struct Tally {
     agree: u64,
     differ: u64,

@@ -1,4 +1,6 @@
 // The whole job on bytes: the text of a program in, one line out.
+#![tactic(auto)]
+
 mod exports;
 mod loops;
 mod marks;

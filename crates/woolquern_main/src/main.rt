@@ -1,4 +1,6 @@
 // Reads the text of a program from standard input and writes its line to standard output.
+#![tactic(auto)]
+
 use libc::{STDIN_FILENO, STDOUT_FILENO};
 use text::Printed;
 
