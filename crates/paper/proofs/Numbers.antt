@@ -35,12 +35,12 @@ module _ {size : ℕ} where
   if_numbered true m o h k = h
   if_numbered false m o h k = k
 
-  kind_numbered : {A : Type 0} (kind : ℕ) (ms : List (ℕ → Reading A)) (other : ℕ → Reading A) (i : ℕ) → Each size i ms → Numbered size (other i) → Numbered size (by_kind kind ms other i)
+  kind_numbered : {A : Type 0} (i kind : ℕ) (ms : List (ℕ → Reading A)) (other : ℕ → Reading A) → Each size i ms → Numbered size (other i) → Numbered size (by_kind kind ms other i)
   unfolding by_kind
-  kind_numbered kind ms other i no_more o = o
-  kind_numbered zero ms other i (and h hs) o = o
-  kind_numbered (suc zero) ms other i (and h hs) o = h
-  kind_numbered (suc (suc k)) ms other i (and h hs) o = kind_numbered (suc k) _ other i hs o
+  kind_numbered i kind ms other no_more o = o
+  kind_numbered i zero ms other (and h hs) o = o
+  kind_numbered i (suc zero) ms other (and h hs) o = h
+  kind_numbered i (suc (suc k)) ms other (and h hs) o = kind_numbered i (suc k) _ other hs o
 
   many_numbered : {A T : Type 0} (nil : T) (cons : A → T → T) (one : ℕ → Reading A) → ((i : ℕ) → i ≤ size → Numbered size (one i)) → (k at : ℕ) → at ≤ size → Numbered size (many nil cons one k at)
   unfolding many
@@ -124,7 +124,7 @@ module _ (ws : List ℕ) (n : ℕ) where
 
   draw_numbered : (at : ℕ) → Numbered (length ws) (reader.draw ws n at)
   unfolding reader.draw
-  draw_numbered at = word_then ws at _ (λ kind inside. kind_numbered kind _ _ (at + 1)
+  draw_numbered at = word_then ws at _ (λ kind inside. kind_numbered (at + 1) kind _ _
       (and (ratio_numbered ws (at + 1))
       (and (read (omega arith))
       (and (of_variable_numbered _ (at + 1))
@@ -157,7 +157,7 @@ module _ (ws : List ℕ) (n : ℕ) where
   event_numbered : (deep at : ℕ) → Numbered (length ws) (reader.event ws n deep at)
   unfolding reader.event
   event_numbered zero at = word_then ws at _ (λ kind inside. bad_4 inside)
-  event_numbered (suc deep) at = word_then ws at _ (λ kind inside. kind_numbered kind _ _ (at + 1)
+  event_numbered (suc deep) at = word_then ws at _ (λ kind inside. kind_numbered (at + 1) kind _ _
       (and (set_numbered (at + 1))
       (and (comparison_numbered (at + 1))
       (and (datum_numbered (at + 1))
@@ -204,7 +204,7 @@ module _ (ws : List ℕ) (n : ℕ) where
   statement_numbered : (deep loops at : ℕ) → Numbered (length ws) (reader.statement ws n deep loops at)
   unfolding reader.statement
   statement_numbered zero loops at = word_then ws at _ (λ kind inside. bad_4 inside)
-  statement_numbered (suc deep) loops at = word_then ws at _ (λ kind inside. kind_numbered kind _ _ (at + 1)
+  statement_numbered (suc deep) loops at = word_then ws at _ (λ kind inside. kind_numbered (at + 1) kind _ _
       (and (sample_numbered (at + 1))
       (and (assign_numbered (at + 1))
       (and (decrement_numbered (at + 1))
