@@ -1,11 +1,13 @@
 -- What one walk over a set does to a number: it passes only numbers of the set, and changes nothing only where there is nothing to pass.
-use mathlib.Core.Path.{◌≡◌, refl}
+use mathlib.Core.Path.{◌≡◌, refl, sym, ◌∙◌}
 use mathlib.Core.Bool.{Bool, true, false, cond, false≢true}
 use mathlib.Core.List.{List, [], ◌∷◌}
-use Prim.Native.Nat.{ℕ, ◌+◌, ◌-◌, ◌≤◌}
+use Prim.Native.Nat.{ℕ, suc, ◌+◌, ◌-◌, ◌≤◌, ◌<◌}
 use native.Mathlib.Omega.{arith}
 use lib.Dec.{eqb}
-use lib.ListN.{length}
+use lib.ListN.{length, get_or, drop, drop_of_length-le}
+use lib.Seq.{drop-cons}
+use native.Mathlib.Numerals.{add-one}
 use Rattle.ranges.specs.Ranges as ranges
 use Rattle.ranges.specs.Removal.{Filled}
 use Rattle.ranges.specs.Walks.{raised, lowered}
@@ -101,3 +103,35 @@ lowered_fills set end last h = filled_join set (lowered set last + 1) (last + 1)
 pub lowered_done : (set : List ℕ) (end last : ℕ) → last ≤ end → Filled set (last + 1) (end + 1) → lowered set last ≡ last → last ≡ ranges.cut_end (length set) set end
 lowered_done set end last l h e =
     stops_only set end last (ranges.cut_end (length set) set end) (record { below = l; stop = lowered_still set last e; passed = h }) (cut_end_is set end)
+
+-- ---- one value of a walk
+
+-- a walk over the values from the index on passes the value there first
+pub raised_next :
+    (values : List ℕ) (i x up next : ℕ) → i < length values → next ≡ cond (eqb up (get_or values i 0)) (up + 1) up →
+    raised values x ≡ raised (drop i values) up → raised values x ≡ raised (drop (i + 1) values) next
+unfolding raised
+raised_next values i x up next l n e = let p : raised (drop i values) up ≡ raised (drop (i + 1) values) next = rw (drop-cons values i 0 l, add-one, n) in e ∙ p
+
+-- a walk over the values from the end on is over
+pub raised_end : (values : List ℕ) (i x up : ℕ) → length values ≤ i → raised values x ≡ raised (drop i values) up → up ≡ raised values x
+unfolding raised
+raised_end values i x up l e = sym (e ∙ rw (drop_of_length-le values {i = i} l))
+
+-- a walk back over the values from the end on has passed none
+pub lowered_end : (values : List ℕ) (x : ℕ) → x ≡ lowered (drop (length values) values) x
+unfolding lowered
+lowered_end values x = rw (drop_of_length-le values {i = length values} (omega arith))
+
+-- a walk back passes the value before the index next
+pub lowered_next :
+    (values : List ℕ) (i x down next : ℕ) → 0 < i → i ≤ length values → down ≡ lowered (drop i values) x →
+    next ≡ cond (eqb down (get_or values (i - 1) 0)) (down - 1) down → next ≡ lowered (drop (i - 1) values) x
+unfolding lowered
+lowered_next values i x down next l h e n =
+    let s : suc (i - 1) ≡ i = omega arith in
+    let b : i - 1 < length values = omega arith in
+    rw (drop-cons values (i - 1) 0 b) (passed (get_or values (i - 1) 0) (drop (suc (i - 1)) values) (rw s e) n)
+  where
+    passed : (y : ℕ) (set : List ℕ) → down ≡ lowered set x → next ≡ cond (eqb down y) (down - 1) down → next ≡ lowered (y ∷ set) x
+    passed y set e n = rw e at n

@@ -125,6 +125,7 @@ fn cut_end(values: &[u64], end: u32) -> u32
 }
 
 // What is left from a start on that is not in the set.
+#[tactic(auto, unfolding(crate::specs::Ranges::remove_end))]
 fn remove_end(start: u32, end: End, values: &[u64]) -> Range
     ensures { result ≡ remove_end start end values.now }
 {
@@ -140,6 +141,7 @@ fn remove_end(start: u32, end: End, values: &[u64]) -> Range
 }
 
 // The range cut at both ends until neither is in the set, or Empty; over if the start would pass 4294967295.
+#[tactic(auto, unfolding(crate::specs::Ranges::remove))]
 pub fn remove(range: Range, values: &[u64]) -> Bounded
     ensures { result ≡ remove range values.now }
 {
