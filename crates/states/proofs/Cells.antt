@@ -1,8 +1,9 @@
 -- Lists of cells: what `each` and `every` of `States` do, cell by cell.
-use mathlib.Core.Path.{◌≡◌, refl, sym, ap, subst}
+use mathlib.Core.Path.{◌≡◌, refl, sym, ap, ◌∙◌, subst}
 use mathlib.Core.Bool.{Bool, true, false, ◌&&◌}
 use mathlib.Core.List.{List, [], ◌∷◌}
-use Prim.Native.Nat.{ℕ, zero, suc, min, ◌≤◌, ◌<◌}
+use Prim.Native.Nat.{ℕ, zero, suc, min, ◌+◌, ◌≤◌, ◌<◌}
+use native.Mathlib.Numerals.{add-one}
 use native.Mathlib.Omega.{arith}
 use lib.Dec.{eqb}
 use lib.ListN.{length, get_or, set}
@@ -137,3 +138,15 @@ set_at P cs v w r h one other = go (eqb w v) refl
 -- lists of cells are equal where their ranges are
 pub cells_eq : (cs ds : List Cell) → length cs ≡ length ds → ((v : ℕ) → at cs v ≡ at ds v) → cs ≡ ds
 cells_eq cs ds h e = ext_get_or states.blank cs ds h (λ v _. λ i. states.cell (e v i))
+
+-- ---- one turn of the loops that go over cells
+
+-- one more cell is made in the state's own list
+pub made_next : (f : Cell → Cell → Cell) (i n : ℕ) (cs ds now : List Cell) (a b c : Cell) → i < n → n ≤ length cs → n ≤ length ds →
+    now ≡ states.each f i cs ds → c ≡ f (get_or now i a) (get_or ds i b) → set now i c ≡ states.each f (i + 1) cs ds
+made_next f i n cs ds now a b c l h k e m = rw (m, e, add-one) (each_more f i cs ds a b (omega arith) (omega arith))
+
+-- one more cell is tested
+pub held_next : (f : Cell → Cell → Bool) (i n : ℕ) (cs ds : List Cell) (a b : Cell) (t : Bool) → i < n → n ≤ length cs → n ≤ length ds →
+    states.every f i cs ds ≡ true → t ≡ f (get_or cs i a) (get_or ds i b) → t ≡ true → states.every f (i + 1) cs ds ≡ true
+held_next f i n cs ds a b t l h k e m q = rw add-one (every_more f i cs ds a b (omega arith) (omega arith) e (sym m ∙ q))
