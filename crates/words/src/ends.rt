@@ -29,7 +29,7 @@ pub fn draw_end(words: &[u64], at: usize) -> usize
 }
 
 // The index after the event at `at`.
-#[cycle(event_end_events_end)]
+#[cycle(event_ends)]
 pub fn event_end(words: &[u64], at: usize) -> usize
     requires { EventAt words.now at }
     ensures { (e : Event) → Begins words.now at (code.event e) → result ≡ at + length (code.event e) }
@@ -52,7 +52,7 @@ pub fn event_end(words: &[u64], at: usize) -> usize
 }
 
 // The index after the list of events whose count is at `at`.
-#[cycle(event_end_events_end)]
+#[cycle(event_ends)]
 pub fn events_end(words: &[u64], at: usize) -> usize
     requires { EventsAt words.now at }
     ensures { (es : Events) → Begins words.now at (conjunction es) → result ≡ at + length (conjunction es) }
@@ -67,7 +67,7 @@ pub fn events_end(words: &[u64], at: usize) -> usize
 }
 
 // The index after the statement at `at`.
-#[cycle(list_end_statement_end)]
+#[cycle(list_ends)]
 pub fn statement_end(words: &[u64], at: usize) -> usize
     requires { StatementAt words.now at }
     ensures { (c : Statement) → Begins words.now at (code.statement c) → result ≡ at + length (code.statement c) }
@@ -99,7 +99,7 @@ pub fn statement_end(words: &[u64], at: usize) -> usize
 }
 
 // The index after the list whose count is at `at`.
-#[cycle(list_end_statement_end)]
+#[cycle(list_ends)]
 pub fn list_end(words: &[u64], at: usize) -> usize
     requires { ListAt words.now at }
     ensures { (cs : Statements) → Begins words.now at (code.program cs) → result ≡ at + length (code.program cs) }
