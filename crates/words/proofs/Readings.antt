@@ -7,8 +7,9 @@ use native.Mathlib.Omega.{arith}
 use lib.Dec.{eqb}
 use lib.ListN.{length}
 use Rattle.paper.specs.Code as code
-use Rattle.paper.specs.Tree.{Statements}
-use Rattle.paper.specs.Reader.{Reading, Read, Bad, and_read, by_kind, many, word, most, flag, event, event_kinds, statement, statement_kinds}
+use Rattle.paper.specs.Tree.{Statement, While, Statements}
+use Rattle.paper.specs.Reader as reader
+use Rattle.paper.specs.Reader.{Reading, Read, Bad, and_read, by_kind, many, word, most, flag, unroll, block, event, event_kinds, statement, statement_kinds}
 use Rattle.paper.specs.Used.{used_event, used_statement}
 use Rattle.paper.proofs.Spelled.{most_at_most}
 use Rattle.words.specs.declared.Checked.TheVariants as checked_is
@@ -182,6 +183,11 @@ module _ (ws : List ℕ) (n deep loops at : ℕ) {s : Seen} (h : s ≡ seen itse
     pub statement_no_kind : (0 < kind → 7 < kind) → Refused 3 at ≡ seen used_statement (statement ws n deep loops at)
     unfolding seen
     statement_no_kind q = statement_kind kind refl (ap (seen used_statement) (sym (no_kind kind (statement_kinds ws n deep loops at (statement ws n d loops) (statement ws n d (loops - 1))) (λ j. Bad 3 at) i q)))
+
+-- a loop's reading is what it holds, one after the other; an attribute on the code cannot name `while` itself
+pub while_is : (ws : List ℕ) (n : ℕ) (one : ℕ → Reading Statement) (deep at : ℕ) → reader.while ws n one deep at ≡ and_read (unroll ws at) (λ u i. and_read (event ws n deep i) λ e j. and_read (block ws one j) λ b h. Read (While u e b) h)
+unfolding reader.while
+while_is ws n one deep at = refl
 
 -- ---- as many as a count says
 

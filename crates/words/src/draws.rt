@@ -1,4 +1,6 @@
 // Draws.
+#![tactic(auto, unfolding(crate::specs::Words::seen, paper::specs::Reader::and_read, paper::specs::Reader::if_read, paper::specs::Reader::by_kind, paper::specs::Reader::unless, paper::specs::Reader::ratio, paper::specs::Reader::interval, paper::specs::Reader::draw))]
+
 ghost use Rattle.std.specs.Prelude.{◌≡◌};
 ghost use Rattle.paper.specs.Reader as reader;
 ghost use Rattle.paper.specs.Used.{used_draw};

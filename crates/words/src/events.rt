@@ -1,4 +1,6 @@
 // Events.
+#![tactic(auto, unfolding(crate::specs::Words::seen, paper::specs::Reader::and_read, paper::specs::Reader::if_read, paper::specs::Reader::by_kind, paper::specs::Reader::set, paper::specs::Reader::comparison, paper::specs::Reader::datum, paper::specs::Reader::events, paper::specs::Reader::event, paper::specs::Used::used_event, paper::specs::Used::used_events, paper::specs::Reader::many, crate::proofs::Readings::raised))]
+
 ghost use Rattle.std.specs.Prelude.{◌≡◌, [], ◌∷◌};
 ghost use Rattle.paper.specs.Reader as reader;
 ghost use Rattle.paper.specs.Used.{used_event, used_events};
@@ -71,7 +73,7 @@ fn datum(words: &[u64], n: usize, at: usize) -> Seen
 }
 
 // A count, then that many events.
-#[cycle(event_events)]
+#[cycle(events)]
 fn events(words: &[u64], n: usize, deep: usize, at: usize) -> Seen
     ensures { result ≡ seen used_events (reader.events words.now (reader.event words.now n deep) at) }
 {
@@ -95,7 +97,7 @@ fn events(words: &[u64], n: usize, deep: usize, at: usize) -> Seen
 }
 
 // An event that may still nest `deep` deep.
-#[cycle(event_events)]
+#[cycle(events)]
 pub fn event(words: &[u64], n: usize, deep: usize, at: usize) -> Seen
     ensures { result ≡ seen used_event (reader.event words.now n deep at) }
 {

@@ -1,4 +1,6 @@
 // Statements that hold neither events nor statements: draws, assigns, decrements.
+#![tactic(auto, unfolding(crate::specs::Words::seen, paper::specs::Reader::and_read, paper::specs::Reader::if_read, paper::specs::Reader::sample, paper::specs::Reader::addend, paper::specs::Reader::assign, paper::specs::Reader::decrement, paper::specs::Used::used_statement))]
+
 ghost use Rattle.std.specs.Prelude.{◌≡◌};
 ghost use Rattle.paper.specs.Reader as reader;
 ghost use Rattle.paper.specs.Used.{used_addend, used_statement};

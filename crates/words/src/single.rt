@@ -1,4 +1,6 @@
 // Single words.
+#![tactic(auto, unfolding(crate::specs::Words::seen, paper::specs::Reader::and_read, paper::specs::Reader::if_read, paper::specs::Reader::word, paper::specs::Reader::unless, paper::specs::Reader::flag))]
+
 ghost use Rattle.std.specs.Prelude.{◌≡◌, max};
 ghost use Rattle.paper.specs.Code as code;
 ghost use Rattle.paper.specs.Reader as reader;

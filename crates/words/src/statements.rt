@@ -1,4 +1,6 @@
 // Statements, and lists of them. What holds a list reads it one level deeper.
+#![tactic(auto, unfolding(crate::specs::Words::seen, paper::specs::Reader::and_read, paper::specs::Reader::if_read, paper::specs::Reader::by_kind, paper::specs::Reader::unroll, paper::specs::Reader::given, paper::specs::Reader::block, paper::specs::Reader::branch, paper::specs::Reader::normalize, paper::specs::Reader::statement, paper::specs::Used::used_statement, paper::specs::Used::used, paper::specs::Reader::many, crate::proofs::Readings::raised))]
+
 ghost use Rattle.std.specs.Prelude.{◌≡◌, [], ◌∷◌, ◌-◌, ◌<◌};
 ghost use Rattle.paper.specs.Reader as reader;
 ghost use Rattle.paper.specs.Used.{used as variables_used, used_statement};
@@ -59,7 +61,7 @@ fn given(words: &[u64], n: usize, at: usize) -> Seen
 }
 
 // A count, then that many statements.
-#[cycle(block_branch_normalize_statement_while_loop)]
+#[cycle(blocks)]
 pub fn block(words: &[u64], n: usize, deep: usize, loops: usize, at: usize) -> Seen
     ensures { result ≡ seen variables_used (reader.block words.now (reader.statement words.now n deep loops) at) }
 {
@@ -83,7 +85,7 @@ pub fn block(words: &[u64], n: usize, deep: usize, loops: usize, at: usize) -> S
 }
 
 // An event, a then-list, an else-list.
-#[cycle(block_branch_normalize_statement_while_loop)]
+#[cycle(blocks)]
 fn branch(words: &[u64], n: usize, deep: usize, loops: usize, at: usize) -> Seen
     requires { 0 < deep }
     ensures { result ≡ seen used_statement (reader.branch words.now n (reader.statement words.now n (deep - 1) loops) deep at) }
@@ -104,7 +106,8 @@ fn branch(words: &[u64], n: usize, deep: usize, loops: usize, at: usize) -> Seen
 }
 
 // Has, unroll, an event, a body with one loop less to nest.
-#[cycle(block_branch_normalize_statement_while_loop)]
+#[cycle(blocks)]
+#[tactic(auto, using(crate::proofs::Readings::while_is), unfolding(crate::specs::Words::seen, paper::specs::Reader::and_read, paper::specs::Used::used_statement))]
 fn while_loop(words: &[u64], n: usize, deep: usize, loops: usize, at: usize) -> Seen
     requires { (0 < deep) × (0 < loops) }
     ensures { result ≡ seen used_statement (reader.while words.now n (reader.statement words.now n (deep - 1) (loops - 1)) deep at) }
@@ -125,7 +128,7 @@ fn while_loop(words: &[u64], n: usize, deep: usize, loops: usize, at: usize) -> 
 }
 
 // Given variables, a body.
-#[cycle(block_branch_normalize_statement_while_loop)]
+#[cycle(blocks)]
 fn normalize(words: &[u64], n: usize, deep: usize, loops: usize, at: usize) -> Seen
     requires { 0 < deep }
     ensures { result ≡ seen used_statement (reader.normalize words.now n (reader.statement words.now n (deep - 1) loops) at) }
@@ -138,7 +141,7 @@ fn normalize(words: &[u64], n: usize, deep: usize, loops: usize, at: usize) -> S
 }
 
 // A statement that may still nest `deep` deep, and `loops` loops deep.
-#[cycle(block_branch_normalize_statement_while_loop)]
+#[cycle(blocks)]
 fn statement(words: &[u64], n: usize, deep: usize, loops: usize, at: usize) -> Seen
     ensures { result ≡ seen used_statement (reader.statement words.now n deep loops at) }
 {

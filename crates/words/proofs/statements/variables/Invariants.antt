@@ -1,0 +1,13 @@
+-- The variables from the start on read as those from here on.
+use Rattle.std.proofs.Common.{◌≡◌, List, [], ◌∷◌, ℕ}
+use Rattle.paper.specs.Reader as reader
+use Rattle.words.specs.Words.{seen, unused}
+use Rattle.words.proofs.statements.variables.Given as goal
+
+abbrev pub invariant-loop-left : goal.invariant-loop-left
+invariant-loop-left l =
+    seen {A = List ℕ} unused (reader.many [] ◌∷◌ (reader.variable l.words l.n) l.count l.at)
+    ≡ seen {A = List ℕ} unused (reader.many [] ◌∷◌ (reader.variable l.words l.n) l.left l.p)
+
+abbrev pub decreases-loop-left : goal.decreases-loop-left
+decreases-loop-left l = l.left
