@@ -1,12 +1,12 @@
 -- What stands at a place is one tree: so the code is injective, whatever the limits.
-use mathlib.Core.Path.{◌≡◌, refl, ap, sym, ◌∙◌}
-use mathlib.Core.List.{List, [], ◌∷◌, ◌++◌}
-use Prim.Native.Nat.{ℕ, ◌+◌, ◌<◌}
+use mathlib.Core.Path.{◌≡◌, refl, sym, ◌∙◌}
+use mathlib.Core.List.{List, ◌∷◌, ◌++◌}
+use Prim.Native.Nat.{ℕ, ◌+◌}
 use native.Mathlib.Omega.{arith}
-use lib.ListN.{length, get_or}
+use lib.ListN.{length}
 use Rattle.paper.specs.Code as code
 use Rattle.paper.specs.Tree.{Draw, Event, InSet, VarComparison, DataFromDist, Complement, Intersection, Events, none, ◌also◌}
-use Rattle.paper.specs.Tree.{Addend, Unroll, Statement, Sample, Assign, Decrement, IfThenElse, While, Fail, Normalize, Statements, done, ◌then◌}
+use Rattle.paper.specs.Tree.{Statement, Sample, Assign, Decrement, IfThenElse, While, Fail, Normalize, Statements, done, ◌then◌}
 use Rattle.words.specs.Parts.{Begins}
 use Rattle.words.proofs.Parts.{begins_whole, begins_at, begins_head, begins_tail, begins_left, begins_right, part_is}
 use Rattle.words.proofs.Nodes.{begins_second, begins_third, begins_after_two, begins_after_three, unroll_after, draw_here}
