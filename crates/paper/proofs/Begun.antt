@@ -2,7 +2,7 @@
 use mathlib.Core.Path.{◌≡◌, refl, ap, sym, ◌∙◌}
 use mathlib.Core.Bool.{Bool, true, false}
 use mathlib.Core.List.{List, [], ◌∷◌, ◌++◌, append_assoc, append-nil}
-use Prim.Native.Nat.{ℕ, zero, suc, ◌+◌, ◌-◌, ◌/◌, ◌%◌, ◌<◌, ◌≤◌}
+use Prim.Native.Nat.{ℕ, zero, suc, ◌-◌, ◌/◌, ◌<◌, ◌≤◌}
 use native.Mathlib.Nat.{div_self, mod_self}
 use native.Mathlib.Omega.{arith}
 use lib.Dec.{eqb, ltb, leb}
@@ -10,9 +10,9 @@ use lib.ListN.{length, take, drop, drop_of_length-le, length-append, length-drop
 use lib.Seq.{take_all, take_at}
 use borrow.Author.Tests.{ltb-false, leb-true, leb-false, eqb-false}
 use Rattle.ranges.specs.Ranges as ranges
-use Rattle.paper.specs.Tree.{Draw, Dirac, Bernoulli, BernoulliVarProb, BinomialVarTrials, Binomial, Categorical, NegBinomialVarSuccesses, NegBinomial, Geometric, Poisson, PoissonVarRate, Uniform}
+use Rattle.paper.specs.Tree.{Draw, Dirac, Bernoulli, BernoulliVarProb, BinomialVarTrials, Binomial, Categorical, NegBinomialVarSuccesses, NegBinomial, PoissonVarRate, Uniform}
 use Rattle.paper.specs.Tree.{Event, InSet, VarComparison, DataFromDist, Complement, Intersection, Events, none, ◌also◌}
-use Rattle.paper.specs.Tree.{Addend, Nought, Times, Unroll, Default, Turns}
+use Rattle.paper.specs.Tree.{Nought, Times, Default, Turns}
 use Rattle.paper.specs.Tree.{Statement, Sample, Assign, Decrement, IfThenElse, While, Fail, Normalize, Statements, done, ◌then◌}
 use Rattle.paper.specs.Code as code
 use Rattle.paper.specs.Reader as reader

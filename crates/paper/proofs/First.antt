@@ -1,14 +1,13 @@
 -- Whatever follows a refused word, the answer is the same.
-use mathlib.Core.Path.{◌≡◌, refl, ap, sym, ◌∙◌}
-use mathlib.Core.Bool.{Bool, true, false, ◌&&◌}
+use mathlib.Core.Path.{◌≡◌, refl}
+use mathlib.Core.Bool.{Bool, true, false}
 use mathlib.Core.List.{List, [], ◌∷◌}
 use Prim.Native.Nat.{ℕ, zero, suc, ◌+◌, ◌-◌, ◌<◌, ◌≤◌}
 use native.Mathlib.Omega.{arith}
 use lib.Dec.{eqb, ltb, leb}
 use lib.ListN.{length, get_or}
-use borrow.Author.Tests.{lt-ltb, ltb-true, ltb-false, eqb-true, eqb-false, eq-eqb, ne_eqb}
-use Rattle.ranges.specs.Ranges as ranges
-use Rattle.paper.specs.Tree.{Draw, Event, Events, none, ◌also◌, Statement, Statements, done, ◌then◌}
+use borrow.Author.Tests.{lt-ltb, ltb-true, ne_eqb}
+use Rattle.paper.specs.Tree.{Event, none, ◌also◌, Statement, Statements, done, ◌then◌}
 use Rattle.paper.specs.Reader as reader
 use Rattle.paper.specs.Reader.{Reading, Read, Bad, and_read, if_read, by_kind, many, whole}
 

@@ -3,7 +3,7 @@ use mathlib.Core.Path.{◌≡◌}
 use mathlib.Core.List.{List, ◌++◌}
 use Prim.Native.Nat.{ℕ, suc, ◌+◌, ◌<◌}
 use native.Mathlib.Omega.{arith}
-use lib.ListN.{length, get_or, take, length-append, length-take, get_or-append}
+use lib.ListN.{length, take, length-append, length-take, get_or-append}
 use lib.Seq.{get_or-take}
 use Rattle.paper.specs.Tree.{Statements}
 use Rattle.paper.specs.Code as code

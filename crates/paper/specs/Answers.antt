@@ -1,5 +1,5 @@
 -- What the library answers: document 01, "Answers by number", in the order of refusals.
-use Rattle.std.specs.Prelude.{Bool, true, false, List, [], ℕ, ◌+◌, ltb, eqb, length}
+use Rattle.std.specs.Prelude.{true, false, List, [], ℕ, ◌+◌, ltb, eqb, length}
 use Rattle.states.specs.declared.State.{State}
 use Rattle.states.specs.declared.Cell.{Cell}
 use Rattle.states.specs.Answers.{Answer, Gives, Refuses, and_then}

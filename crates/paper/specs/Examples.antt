@@ -1,9 +1,9 @@
 -- The definitions at work: document 01's 'Run only' lines and the decisions taken on it, by computation.
 use Rattle.std.specs.Prelude.{◌≡◌, refl, List, [], ◌∷◌, ℕ}
-use Rattle.ranges.specs.declared.End.TheVariants.{At, Open}
+use Rattle.ranges.specs.declared.End.TheVariants.{At}
 use Rattle.ranges.specs.declared.Range.TheVariants.{Span}
 use Rattle.ranges.specs.Ranges as ranges
-use Rattle.states.specs.Answers.{Answer, Gives, Refuses}
+use Rattle.states.specs.Answers.{Gives, Refuses}
 use Rattle.states.specs.Starts as starts
 use Rattle.states.specs.States as states
 use Rattle.paper.specs.Code as code

@@ -1,18 +1,17 @@
 -- The table of document 01, "Proved table": its 13 rows as one theorem, by computation.
-use Rattle.std.specs.Prelude.{◌≡◌, refl, Bool, true, false, cond, List, [], ◌∷◌, ℕ, zero, suc, ◌+◌, set}
+use Rattle.std.specs.Prelude.{◌≡◌, refl, false, List, [], ◌∷◌, ℕ, set}
 use Rattle.ranges.specs.declared.End.TheVariants.{At, Open}
 use Rattle.ranges.specs.declared.Range.{Range}
 use Rattle.ranges.specs.declared.Range.TheVariants.{Empty, Span}
 use Rattle.ranges.specs.Ranges as ranges
 use Rattle.ranges.specs.declared.Bounded.TheVariants.{Is, Over}
 use Rattle.ranges.specs.Ranges.{top}
-use Rattle.states.specs.declared.State.{State}
 use Rattle.states.specs.declared.Cell.{Cell}
 use Rattle.states.specs.States as states
 use Rattle.paper.specs.Code as code
 use Rattle.paper.specs.Reader as reader
 use Rattle.paper.specs.Rules as rules
-use Rattle.states.specs.Answers.{Answer, Gives, Refuses}
+use Rattle.states.specs.Answers.{Gives}
 use Rattle.paper.specs.Rules.{Setting, Looped}
 use Rattle.states.specs.Starts as starts
 use Rattle.paper.specs.Answers as answers

@@ -1,10 +1,8 @@
 -- What the proofs of functions share: a state or a start that a function is passed has 64 cells, and join's ways past an empty state.
-use mathlib.Core.Path.{◌≡◌, sym, ◌∙◌}
+use mathlib.Core.Path.{◌≡◌}
 use mathlib.Core.Bool.{true, false}
 use Prim.Native.Nat.{ℕ}
-use lib.ListN.{length, length-map}
 use Rattle.states.specs.declared.State.{State}
-use Rattle.states.specs.declared.Start.{Start}
 use Rattle.states.specs.States as states
 
 -- an empty state with t gives t, and t with an empty one stays t

@@ -1,5 +1,5 @@
 -- A walk passes only numbers of the set, so there are no more steps than values.
-use Rattle.std.proofs.Common.{length, sym, ◌∙◌, arith}
+use Rattle.std.proofs.Common.{sym, ◌∙◌, arith}
 use Rattle.ranges.specs.Walks.{raised}
 use Rattle.ranges.proofs.Removed.{filled_near}
 use Rattle.ranges.proofs.Walked.{raised_above, raised_fills, raised_done}

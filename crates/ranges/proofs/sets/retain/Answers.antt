@@ -1,5 +1,5 @@
 -- One value further: it is kept where it is inside.
-use Rattle.std.proofs.Common.{refl, sym, ◌∙◌, arith}
+use Rattle.std.proofs.Common.{refl, ◌∙◌, arith}
 use Rattle.ranges.proofs.Kept.{retain_next, retain_skips, retain_end}
 use Rattle.ranges.proofs.sets.retain.Goals as goal
 use Rattle.ranges.proofs.sets.retain.Goals.{then-holds, else-holds}
