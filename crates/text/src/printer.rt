@@ -23,6 +23,7 @@ pub fn put_bytes(draft: &mut [u8], at: usize, bytes: &[u8]) -> usize
 }
 
 // A number in decimal: the digits of all but its last one, then that one.
+#[tactic(auto, using(crate::proofs::Digits::digits_one, crate::proofs::Digits::digits_longer))]
 fn put_number(draft: &mut [u8], at: usize, x: u64) -> usize
     requires { at + length (lines.digits x) ≤ length draft.old }
     ensures { Put draft.old at (lines.digits x) result draft.new }
@@ -37,6 +38,7 @@ fn put_number(draft: &mut [u8], at: usize, x: u64) -> usize
 }
 
 // What follows a range's start.
+#[tactic(auto, using(crate::proofs::Puts::width_32))]
 fn put_end(draft: &mut [u8], at: usize, start: u32, end: End) -> usize
     requires { at + 18 ≤ length draft.old }
     ensures put { Put draft.old at (lines.to_end start end) result draft.new }
@@ -56,6 +58,7 @@ fn put_end(draft: &mut [u8], at: usize, start: u32, end: End) -> usize
 }
 
 // A range: at most 29 bytes.
+#[tactic(auto, using(crate::proofs::Puts::width_32))]
 fn put_range(draft: &mut [u8], at: usize, range: Range) -> usize
     requires { at + 29 ≤ length draft.old }
     ensures put { Put draft.old at (lines.range range) result draft.new }
@@ -117,6 +120,7 @@ fn put_state(draft: &mut [u8], state: State, n: usize) -> usize
 }
 
 // A refusal by its number and place.
+#[tactic(auto, using(crate::proofs::Puts::width_64))]
 fn put_refusal(draft: &mut [u8], number: u64, place: usize) -> usize
     requires { 2048 ≤ length draft.old }
     ensures put { Put draft.old 0 (lines.refusal number place) result draft.new }

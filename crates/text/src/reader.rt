@@ -245,6 +245,7 @@ pub fn pass(text: &[u8], words: &mut [u64]) -> Found
 }
 
 // Reads the text into the words: how many, or a refusal, which leaves the words as they were. So a first pass only finds what the text holds.
+#[tactic(auto, using(crate::proofs::Agree::says_outcome, crate::proofs::Passes::out_breaks, crate::proofs::Passes::out_many))]
 pub fn read(text: &[u8], words: &mut [u64]) -> Reading
     ensures says { Says text.now words.old (answers.leaves (answers.of_reading result) words.new) }
     ensures words_after { answers.leaves (answers.of_reading result) words.new ≡ machine.outcome text.now words.old }
