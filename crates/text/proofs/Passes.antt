@@ -246,6 +246,6 @@ module _ (t w : List ℕ) (s : length t ≤ 65536) where
   pub out_read : (n : ℕ) → Holds n ≡ found (contents t Start) → n ≤ 8192 → n ≤ length w → outcome t w ≡ leaves (Gives n) (put (contents t Start) w)
   out_read n e h l = not_long t w s ∙ settle_read w (contents t Start) n e h l
 
-  -- the words are what a pass leaves that found the numbers
+  -- the same of the words that a pass leaves
   pub out_stored : (n : ℕ) (x : List ℕ) → Holds n ≡ found (contents t Start) → n ≤ 8192 → n ≤ length w → x ≡ stored 0 (numbers t Start) w → outcome t w ≡ leaves (Gives n) x
   out_stored n x e h l s = out_read n e h l ∙ ap (leaves (Gives n)) (sym (s ∙ stored_put t w (found_fits (contents t Start) n (length w) e l)))
