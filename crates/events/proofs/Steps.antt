@@ -11,6 +11,8 @@ use Rattle.ranges.specs.declared.End.{End}
 use Rattle.ranges.specs.declared.Range.{Range}
 use Rattle.ranges.specs.declared.Range.TheVariants.{Empty, Span}
 use Rattle.ranges.specs.Ranges as ranges
+use Rattle.states.proofs.Cells.{there}
+use Rattle.states.specs.declared.Cell.{Cell}
 use Rattle.states.specs.Answers.{Answer, Gives, Refuses, and_then}
 use Rattle.states.specs.declared.State.{State}
 use Rattle.states.specs.declared.Verdict.TheVariants.{Good, Refused}
@@ -23,7 +25,7 @@ use Rattle.paper.specs.Rules as rules
 use Rattle.words.specs.Parts.{Begins, conjunction, DrawIs, EventIs, EventsWithin}
 use Rattle.words.proofs.Parts.{begins_whole, begins_at, begins_head, begins_tail, part_is}
 use Rattle.words.proofs.Nodes.{draw_of, draw_size, draw_is, draw_words, draw_some, event_some, event_ends, SetAt, set_here, ComplementAt, IntersectionAt, NextEventAt, next_event_here, no_event_here}
-use Rattle.words.proofs.Bounds.{draw_bounds, next_event_bounds}
+use Rattle.words.proofs.Bounds.{draw_bounds, set_bounds, next_event_bounds}
 use Rattle.events.specs.Sided.{parted, sided}
 use Rattle.events.specs.declared.Parted.{Parted}
 use Rattle.events.specs.declared.Sides.{Sides}
@@ -108,9 +110,26 @@ set_removed s ws = ranges.remove (states.get s (get_or ws 1 0)) (set_values ws)
 abbrev pub set_parted : ℕ → State → List ℕ → Parted
 set_parted at s ws = parted at (set_kept s ws) (set_removed s ws)
 
+-- of the range in the cell that the code reads, whatever a read past the end gives
+pub set_parted_is : (at : ℕ) (s : State) (ws : List ℕ) (a : Cell) {p : Parted} → length s.cells ≡ 64 → get_or ws 1 0 < 64
+    → p ≡ parted at (ranges.retain (get_or s.cells (get_or ws 1 0) a).range (set_values ws)) (ranges.remove (get_or s.cells (get_or ws 1 0) a).range (set_values ws))
+    → p ≡ set_parted at s ws
+set_parted_is at s ws a long inside q =
+    q ∙ ap (λ (cell : Cell). parted at (ranges.retain cell.range (set_values ws)) (ranges.remove cell.range (set_values ws))) (there s.cells (get_or ws 1 0) a (omega arith))
+
 module _ {ws : List ℕ} where
   pub event_filled : {n : ℕ} → EventIs n ws → 0 < length ws
   event_filled p = omega (arith, ap length p.is, event_some p.tree)
+
+  -- of a set test: its first three words are there, and its variable is one that a state has
+  module _ {n : ℕ} (p : EventIs n ws) (k : get_or ws 0 0 ≡ 1) where
+    pub set_filled : 3 ≤ length ws
+    set_filled = omega (arith, ap length p.is, (set_here p.tree (begins_whole p.is) k).size)
+
+    pub set_inside : n ≤ 64 → get_or ws 1 0 < 64
+    set_inside h =
+        let x = set_here p.tree (begins_whole p.is) k in
+        omega (arith, x.var_is, (set_bounds x.same p.within).var)
 
   module _ {e : Event} (h : ws ≡ code.event e) where
     set_part : (x : SetAt ws 0 e) → set_values ws ≡ x.values

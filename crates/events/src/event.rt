@@ -34,7 +34,7 @@ fn cut(range: Range, values: &[u64], at: usize) -> Parted
 }
 
 // Both sides of the event that the words are, checked over n variables; the first of them stands at `base` in the program. The given state becomes the true side in place.
-#[cycle(intersection_sides)]
+#[cycle(event_sides)]
 pub fn sides(words: &[u64], base: usize, n: usize, mut state: State) -> Sides
     requires event_is { EventIs n words.now }
     requires n_bound { n ≤ 64 }
@@ -83,7 +83,7 @@ pub fn sides(words: &[u64], base: usize, n: usize, mut state: State) -> Sides
 }
 
 // A count, then that many events: on with the true side, the false sides joined from empty.
-#[cycle(intersection_sides)]
+#[cycle(event_sides)]
 fn intersection(words: &[u64], base: usize, n: usize, state: State) -> Sides
     requires events_are { EventsAre n words.now }
     requires n_bound { n ≤ 64 }
