@@ -1,7 +1,7 @@
 -- The kind word says which event the words are, so what its sides are; a list goes on after its head, or hands back its refusal.
-use Rattle.std.proofs.Common.{◌≡◌, ◌∙◌, ap, sym, arith, length}
+use Rattle.std.proofs.Common.{◌∙◌, ap, sym, arith, length}
 use Rattle.events.specs.Sided.{sided}
-use Rattle.events.proofs.Steps.{event_filled, set_filled, set_inside, set_parted_is, put_span, put_none, complement_part, intersection_part, set_none, set_some, event_same, event_complement, event_intersection, turn, going_begins, going_next, going_refused, going_done}
+use Rattle.events.proofs.Steps.{event_filled, set_filled, set_inside, set_parted_is, put_span, put_none, complement_part, intersection_part, set_none, set_some, event_same, event_complement, event_intersection, turn, going_next, going_refused, going_done}
 use Rattle.words.proofs.Bounds.{complement_bounds, intersection_bounds, next_event_bounds}
 use Rattle.words.proofs.Nodes.{next_event_here, complement_here, intersection_here}
 use Rattle.words.proofs.Parts.{begins_whole}

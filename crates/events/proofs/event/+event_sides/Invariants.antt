@@ -1,5 +1,5 @@
 -- The words fall. At each turn the rules say of what is left of the list, from the two sides so far, what they say of the whole.
-use Rattle.std.proofs.Common.{◌≡◌, ℕ, ◌<◌, length}
+use Rattle.std.proofs.Common.{◌≡◌, ◌<◌, length}
 use Rattle.paper.specs.Tree.{Events}
 use Rattle.words.specs.Parts.{conjunction}
 use Rattle.events.proofs.Steps.{Going}
