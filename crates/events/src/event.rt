@@ -35,6 +35,7 @@ fn cut(range: Range, values: &[u64], at: usize) -> Parted
 
 // Both sides of the event that the words are, checked over n variables; the first of them stands at `base` in the program. The given state becomes the true side in place.
 #[cycle(event_sides)]
+#[tactic(auto, using(crate::proofs::Steps::set_filled, crate::proofs::Steps::set_inside))]
 pub fn sides(words: &[u64], base: usize, n: usize, mut state: State) -> Sides
     requires event_is { EventIs n words.now }
     requires n_bound { n ≤ 64 }

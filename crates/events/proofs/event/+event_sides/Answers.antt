@@ -106,24 +106,6 @@ sides-returns-then-kind-eq5 t c = λ u e h.
 pub sides-bounds-words-1 : goal.sides-bounds-words-1
 sides-bounds-words-1 t c = omega (arith, set_filled c.requires.event_is c.if-kind-eq1.true)
 
-pub sides-offset_bounds-state-variable : goal.sides-offset_bounds-state-variable
-sides-offset_bounds-state-variable t c = omega (arith, set_inside c.requires.event_is c.if-kind-eq1.true c.requires.n_bound)
-
-pub sides-bounds-state-variable : goal.sides-bounds-state-variable
-sides-bounds-state-variable t c = set_inside c.requires.event_is c.if-kind-eq1.true c.requires.n_bound
-
-pub sides-slice_bounds-cut-count : goal.sides-slice_bounds-cut-count
-sides-slice_bounds-cut-count t c = set_filled c.requires.event_is c.if-kind-eq1.true
-
-pub sides-slice_bounds-cut-start : goal.sides-slice_bounds-cut-start
-sides-slice_bounds-cut-start t c = omega (arith, set_filled c.requires.event_is c.if-kind-eq1.true)
-
-pub sides-offset_bounds-state-variable-in_default : goal.sides-offset_bounds-state-variable-in_default
-sides-offset_bounds-state-variable-in_default t c = omega (arith, set_inside c.requires.event_is c.if-kind-eq1.true c.requires.n_bound)
-
-pub sides-bounds-state-variable-in_default : goal.sides-bounds-state-variable-in_default
-sides-bounds-state-variable-in_default t c = omega (arith, set_inside c.requires.event_is c.if-kind-eq1.true c.requires.n_bound)
-
 pub sides-offset_bounds-no-variable : goal.sides-offset_bounds-no-variable
 sides-offset_bounds-no-variable t c = omega (arith, set_inside c.requires.event_is c.if-kind-eq1.true c.requires.n_bound)
 
