@@ -1,5 +1,5 @@
 -- The words of an if, a loop and a normalize, cut into their parts where the code cuts them.
-use mathlib.Core.Path.{◌≡◌, sym, ap, ◌∙◌, subst}
+use mathlib.Core.Path.{◌≡◌, refl, sym, ap, ◌∙◌, subst}
 use mathlib.Core.List.{List}
 use Prim.Native.Nat.{ℕ, ◌+◌, ◌-◌, ◌<◌, ◌≤◌}
 use native.Mathlib.Omega.{arith}
@@ -9,8 +9,9 @@ use Rattle.paper.specs.Code as code
 use Rattle.words.specs.Parts.{Begins, EventAt, ListAt, EventIs, ListIs, StatementIs}
 use Rattle.words.proofs.Parts.{begins_whole, begins_at, part_is}
 use Rattle.words.proofs.Nodes.{unroll_of, BranchAt, WhileAt, NormalizeAt, branch_here, while_here, normalize_here, event_some}
-use Rattle.words.proofs.Bounds.{while_bounds}
-use Rattle.analysis.specs.Loops.{LoopIs}
+use Rattle.words.proofs.Bounds.{branch_bounds, while_bounds, normalize_bounds}
+use Rattle.paper.specs.Limits.{Each}
+use Rattle.analysis.specs.Loops.{LoopIs, GivenAre}
 
 -- an if whose then-list's count stands at p and whose else-list's count stands at q
 pub record BranchCut (ws : List ℕ) (p q : ℕ) (c : Statement) : Type 0 where
@@ -58,6 +59,21 @@ module _ (ws : List ℕ) (c : Statement) (is : ws ≡ code.statement c) (kind : 
           then_part = part_is (q - p) branch_then.is (omega arith);
           else_part = part_is (length ws - q) (begins_at (let e : code.else_at 0 x.event x.then_list ≡ q = omega arith in e) x.else_is) (omega arith);
         }
+
+-- the parts of words that are an if
+module _ {n : ℕ} {ws : List ℕ} (h : StatementIs n ws) (kind : get_or ws 0 0 ≡ 4) {p q : ℕ}
+    (ends : (x : Event) → Begins ws 1 (code.event x) → p ≡ 1 + length (code.event x)) (list_ends : (x : Statements) → Begins ws p (code.program x) → q ≡ p + length (code.program x)) where
+  pub branch_inside : BranchCut ws p q h.tree
+  branch_inside = branch_cut ws h.tree h.is kind p ends q list_ends
+
+  pub branch_event_is : EventIs n (take (p - 1) (drop 1 ws))
+  branch_event_is = record { tree = branch_inside.event; is = branch_inside.event_part; within = (branch_bounds branch_inside.same h.within).0 }
+
+  pub branch_then_is : ListIs n (take (q - p) (drop p ws))
+  branch_then_is = record { tree = branch_inside.then_list; is = branch_inside.then_part; within = (branch_bounds branch_inside.same h.within).1 }
+
+  pub branch_else_is : ListIs n (take (length ws - q) (drop q ws))
+  branch_else_is = record { tree = branch_inside.else_list; is = branch_inside.else_part; within = (branch_bounds branch_inside.same h.within).2 }
 
 -- a loop whose body's count stands at p
 pub record LoopCut (ws : List ℕ) (p : ℕ) (e : Event) (b : Statements) : Type 0 where
@@ -168,3 +184,16 @@ module _ (ws : List ℕ) (c : Statement) (is : ws ≡ code.statement c) (kind : 
         given_part = part_is (p - 2) x.given_are (omega arith);
         body_part = part_is (length ws - p) (begins_at (let q : code.normalized_at 0 x.given ≡ p = omega arith in q) x.body_is) (omega arith);
       }
+
+-- the parts of words that are a normalize
+module _ {n : ℕ} {ws : List ℕ} (h : StatementIs n ws) (kind : get_or ws 0 0 ≡ 7) where
+  pub normalize_inside : NormalizeCut ws (get_or ws 1 0 + 2) h.tree
+  normalize_inside = normalize_cut ws h.tree h.is kind (get_or ws 1 0 + 2) refl
+
+  pub normalize_given_are : GivenAre n (take (get_or ws 1 0 + 2 - 2) (drop 2 ws))
+  normalize_given_are =
+      let k = normalize_inside in
+      record { each = subst (λ (l : List ℕ). Each (λ v. v < n) l) (sym k.given_part) (normalize_bounds k.same h.within).1 }
+
+  pub normalize_body_is : ListIs n (take (length ws - (get_or ws 1 0 + 2)) (drop (get_or ws 1 0 + 2) ws))
+  normalize_body_is = let k = normalize_inside in record { tree = k.body; is = k.body_part; within = (normalize_bounds k.same h.within).2 }

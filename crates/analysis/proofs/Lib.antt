@@ -1,5 +1,4 @@
 -- How the code follows the rules and the trace.
-pub mod Passed
 pub mod Says
 pub mod Steps
 pub mod Turns

@@ -8,18 +8,20 @@ use lib.ListN.{length, get_or, take, drop, set}
 use Rattle.ranges.specs.declared.Bounded.{Bounded}
 use Rattle.ranges.specs.declared.Bounded.TheVariants.{Is, Over}
 use Rattle.ranges.specs.declared.Range.{Range}
+use Rattle.states.specs.declared.Cell.{Cell}
 use Rattle.states.specs.declared.State.{State}
 use Rattle.states.specs.declared.Verdict.TheVariants.{Good, Refused}
 use Rattle.states.specs.declared.Answer as code_answer
 use Rattle.states.specs.Answers.{Gives, Refuses, answered}
 use Rattle.states.specs.States as states
+use Rattle.states.proofs.Cells.{there}
 use Rattle.paper.specs.Code as code
 use Rattle.paper.specs.Rules as rules
 use Rattle.paper.specs.Rules.{Setting}
 use Rattle.paper.specs.Tree.{Event, Statement, IfThenElse, Fail, Statements, ◌then◌}
 use Rattle.words.specs.Parts.{Begins, ListWithin, StatementWithin, StatementIs}
 use Rattle.words.proofs.Parts.{begins_whole, begins_at, begins_tail, part_is}
-use Rattle.words.proofs.Nodes.{NextAt, next_here, statement_kind, fail_here, done_here, statement_ends}
+use Rattle.words.proofs.Nodes.{NextAt, next_here, statement_kind, statement_some, fail_here, done_here, statement_ends}
 use Rattle.words.proofs.Bounds.{next_bounds}
 use Rattle.events.specs.declared.Sides.{Sides}
 use Rattle.events.specs.Sided.{sided}
@@ -31,7 +33,7 @@ use Rattle.analysis.specs.Plain as plain
 use Rattle.analysis.proofs.Says.{Leads, leads_self, leads_then}
 use Rattle.analysis.proofs.Steps as steps
 use Rattle.analysis.proofs.Turns as turns
-use Rattle.analysis.proofs.Plains.{plain_kind, plain_long, begins_kind, begins_target}
+use Rattle.analysis.proofs.Plains.{plain_kind, plain_long, begins_kind, begins_target, target_below, source_below}
 use Rattle.analysis.proofs.Cuts.{BranchCut, LoopCut, NormalizeCut}
 use Rattle.analysis.proofs.Given.{normalize_is}
 
@@ -241,3 +243,35 @@ module _ {g : Setting} {base : ℕ} {ws : List ℕ} {s₀ : State} {m₀ : List 
 
       pub going_first_word : get_or (take (end - at) (drop at ws)) 0 0 ≡ get_or ws at 0
       going_first_word = sym (plain_kind (take (end - at) (drop at ws)) going_next.head (going_part end e)) ∙ sym going_kind
+
+    -- where the code says that it ends
+    module _ {end : ℕ} (ends : (c : Statement) → Begins ws at (code.statement c) → end ≡ at + length (code.statement c)) where
+      pub going_end : end ≡ at + length (code.statement going_next.head)
+      going_end = ends going_next.head going_next.head_is
+
+      pub going_room : (at < end) × (end ≤ length ws)
+      going_room = (omega (arith, going_end, statement_some going_next.head), omega (arith, going_end, going_inside))
+
+      -- the variables of a plain statement, and the range that it gives, as the code has them
+      module _ (few : get_or ws at 0 < 4) where
+        pub going_plain : plain.kind going_next.head < 4
+        going_plain = kind_below going_kind few
+
+        pub going_own_below : g.n ≤ 64 → ListWithin g.n t → get_or ws (at + 1) 0 < 64
+        going_own_below bound w = omega (arith, going_own going_plain, target_below going_next.head (going_statement w) going_plain, bound)
+
+        module _ {source : ℕ} (sources : (c : Statement) → take (end - at) (drop at ws) ≡ code.statement c → source ≡ plain.source c) where
+          going_source : source ≡ plain.source going_next.head
+          going_source = sources going_next.head (going_part end going_end)
+
+          pub going_source_below : g.n ≤ 64 → ListWithin g.n t → source < 64
+          going_source_below bound w = omega (arith, going_source, source_below going_next.head (going_statement w) going_plain, bound)
+
+          pub going_given : (a : Cell) → length s.cells ≡ 64 → get_or ws (at + 1) 0 < 64 → source < 64 → {r : Bounded} →
+              ((c : Statement) → take (end - at) (drop at ws) ≡ code.statement c → r ≡ plain.change c (get_or s.cells (get_or ws (at + 1) 0) a).range (get_or s.cells source a).range) →
+              r ≡ given going_plain
+          going_given a long own_in source_in changes =
+              let own = there s.cells (get_or ws (at + 1) 0) a (omega (arith, long, own_in)) in
+              let read = there s.cells source a (omega (arith, long, source_in)) in
+              changes going_next.head (going_part end going_end)
+              ∙ same_change going_next.head (ap (λ (z : Cell). z.range) own ∙ ap (λ (v : ℕ). states.get s v) (going_own going_plain)) (ap (λ (z : Cell). z.range) read ∙ ap (λ (v : ℕ). states.get s v) going_source)

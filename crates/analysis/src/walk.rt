@@ -28,7 +28,7 @@ fn mark(marks: &mut [u8], at: usize, live: bool)
 }
 
 // The list whose count is the first of the words, which stands at `base` in the program.
-#[cycle(branch_growing_list_looped_normalize_onward_pass_search_settle_statement_unrolled)]
+#[cycle(walk)]
 pub fn list(
     words: &[u64],
     base: usize,
@@ -83,7 +83,7 @@ pub fn list(
 }
 
 // An if, a loop, a fail or a normalize.
-#[cycle(branch_growing_list_looped_normalize_onward_pass_search_settle_statement_unrolled)]
+#[cycle(walk)]
 fn statement(
     words: &[u64],
     base: usize,
@@ -129,7 +129,7 @@ fn statement(
     states::good(s)
 }
 
-#[cycle(branch_growing_list_looped_normalize_onward_pass_search_settle_statement_unrolled)]
+#[cycle(walk)]
 fn branch(
     words: &[u64],
     base: usize,
@@ -180,7 +180,7 @@ fn branch(
 }
 
 // A pass splits by the event; the body over the true side is the new state, the false side the exit.
-#[cycle(branch_growing_list_looped_normalize_onward_pass_search_settle_statement_unrolled)]
+#[cycle(walk)]
 fn pass(words: &[u64], base: usize, n: usize, unroll: usize, state: State, marks: &mut [u8]) -> Pass
     requires loop_is { LoopIs n words.now }
     requires n_bound { n ≤ 64 }
@@ -207,7 +207,7 @@ fn pass(words: &[u64], base: usize, n: usize, unroll: usize, state: State, marks
 }
 
 // The search leaves its loop with the index of the first pass whose new state equals the old. It joins the exits on its way.
-#[cycle(branch_growing_list_looped_normalize_onward_pass_search_settle_statement_unrolled)]
+#[cycle(walk)]
 fn search(
     words: &[u64],
     base: usize,
@@ -256,7 +256,7 @@ fn search(
 }
 
 // So many unrolled passes, joining exits.
-#[cycle(branch_growing_list_looped_normalize_onward_pass_search_settle_statement_unrolled)]
+#[cycle(walk)]
 fn unrolled(
     words: &[u64],
     base: usize,
@@ -290,7 +290,7 @@ fn unrolled(
 }
 
 // Up to so many passes by which a state grows, by widening or by joining: stop if new lies within old.
-#[cycle(branch_growing_list_looped_normalize_onward_pass_search_settle_statement_unrolled)]
+#[cycle(walk)]
 fn growing(
     words: &[u64],
     base: usize,
@@ -326,7 +326,7 @@ fn growing(
 }
 
 // Up to 100 joining passes, then widening passes where they did not settle.
-#[cycle(branch_growing_list_looped_normalize_onward_pass_search_settle_statement_unrolled)]
+#[cycle(walk)]
 fn settle(
     words: &[u64],
     base: usize,
@@ -377,7 +377,7 @@ fn leave(words: &[u64], base: usize, n: usize, state: State) -> Answer
 }
 
 // What follows the search: so many unrolled passes, settling; the result is the joined exits with the settled state's exit.
-#[cycle(branch_growing_list_looped_normalize_onward_pass_search_settle_statement_unrolled)]
+#[cycle(walk)]
 fn onward(
     words: &[u64],
     base: usize,
@@ -427,7 +427,7 @@ fn onward(
 }
 
 // A search that found a pass no sooner than the loop's own turns has made every pass there is: from the state found, a pass gives that state again. Else the stages follow.
-#[cycle(branch_growing_list_looped_normalize_onward_pass_search_settle_statement_unrolled)]
+#[cycle(walk)]
 pub fn looped(
     words: &[u64],
     base: usize,
@@ -461,7 +461,7 @@ pub fn looped(
 }
 
 // The given variables are peeled off one at a time: each value of the first is set as a point, the rest enumerated, the results joined.
-#[cycle(branch_growing_list_looped_normalize_onward_pass_search_settle_statement_unrolled)]
+#[cycle(walk)]
 fn normalize(
     given: &[u64],
     place: usize,
