@@ -1,4 +1,4 @@
--- No two answers satisfy the contract of `run`, `run_marked` or `run_loop`. (Those of the C functions are equations for all that they leave.)
+-- No two answers satisfy the contract of `run`, `run_marked` or `run_loop`. (Those of the C functions, in crate woolquern_c, are equations for all that they leave.)
 use mathlib.Core.Path.{◌≡◌, refl, sym, ap, ◌∙◌}
 use mathlib.Core.List.{List}
 use Prim.Native.Nat.{ℕ}

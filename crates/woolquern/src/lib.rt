@@ -1,7 +1,6 @@
 // The whole job on bytes: the text of a program in, one line out.
 #![tactic(auto)]
 
-mod exports;
 mod loops;
 mod marks;
 
@@ -13,7 +12,6 @@ ghost use Rattle.text.specs.Line.{printed};
 ghost use Rattle.text.specs.declared.Printed.TheVariants.{Short};
 ghost use Rattle.woolquern.specs.Job as job;
 
-pub use exports::{woolquern_loop, woolquern_marks, woolquern_run};
 pub use loops::run_loop;
 pub use marks::run_marked;
 use ranges::{End, Range};

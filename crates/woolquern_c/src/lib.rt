@@ -1,4 +1,6 @@
 // The job for callers in C and Rust: a slice is a pointer and a length, and an answer is a number.
+#![tactic(auto)]
+
 ghost use Rattle.std.specs.Prelude.{◌≡◌, ◌<◌, length};
 ghost use Rattle.text.specs.Answers.{of_printed};
 ghost use Rattle.woolquern.specs.Job as job;
@@ -22,7 +24,7 @@ pub extern "C" fn woolquern_run(text: &[u8], out: &mut [u8]) -> usize
     ensures out_after { out.new ≡ (job.run text.now out.old).buffer }
     ensures out_len_bound { result ≡ 0 → length out.old < 2048 }
 {
-    let printed = crate::run(text, out);
+    let printed = woolquern::run(text, out);
     written(printed)
 }
 
@@ -34,7 +36,7 @@ pub extern "C" fn woolquern_marks(text: &[u8], marks: &mut [u8], out: &mut [u8])
     ensures out_after { out.new ≡ (job.run_marked text.now marks.old out.old).printing.buffer }
     ensures out_len_bound { result ≡ 0 → length out.old < 2048 }
 {
-    let printed = crate::run_marked(text, marks, out);
+    let printed = woolquern::run_marked(text, marks, out);
     written(printed)
 }
 
@@ -53,6 +55,6 @@ pub extern "C" fn woolquern_loop(
     ensures out_after { out.new ≡ (job.run_loop text.now unroll counts.old settled.old out.old).printing.buffer }
     ensures out_len_bound { result ≡ 0 → length out.old < 2048 }
 {
-    let printed = crate::run_loop(text, unroll, counts, settled, out);
+    let printed = woolquern::run_loop(text, unroll, counts, settled, out);
     written(printed)
 }
