@@ -5,9 +5,13 @@ use mathlib.Core.List.{List, ◌++◌}
 use Prim.Native.Nat.{ℕ, ◌+◌, ◌≤◌, ◌<◌}
 use native.Mathlib.Omega.{arith}
 use borrow.Author.Tests.{ltb-true, ltb-false}
-use lib.Dec.{ltb}
+use lib.Dec.{eqb, ltb}
 use lib.ListN.{length, take, drop, get_or}
 use lib.Seq.{take-append_seam}
+use Rattle.std.specs.Bool.{Decides}
+use Rattle.std.specs.Cmp.Lexicographic.{pointwise}
+use Rattle.std.proofs.lemmas.Bool.Decides.{Decides-eqb}
+use Rattle.std.proofs.lemmas.Slice.Eq.{slice_eq-Decides}
 use Rattle.states.specs.Answers.{Answer, Gives, Refuses}
 use Rattle.text.specs.Answers.{Outcome, leaves, of_printed, refused, done}
 use Rattle.text.specs.Line.{printed}
@@ -67,3 +71,7 @@ wrote bytes out r after {count} e is = go (ltb (length out) (length bytes)) (sub
         let k : count ≡ length bytes = cc in
         let l : after ≡ bytes ++ drop (length bytes) out = ap (λ (o : Outcome). o.buffer) q in
         rw (k, l) (take-append_seam bytes (drop (length bytes) out))
+
+-- To compare with what was written is to compare with the line.
+pub compares : (bytes line : List ℕ) {written : List ℕ} (r : Bool) → written ≡ bytes → r ≡ pointwise eqb written line → Decides r (bytes ≡ line)
+compares bytes line {written} r is e = rw is at (slice_eq-Decides Decides-eqb written line r e)

@@ -6,6 +6,9 @@ ghost use Rattle.std.specs.Prelude.{◌≡◌, true, ◌≤◌, length};
 ghost use Rattle.replay.specs.Records.{Line, Prints, Replayed};
 ghost use Rattle.replay.specs.Records.{next as Records·next};
 
+use std::fs::File;
+use std::io;
+use std::io::Read;
 use text::Printed;
 
 // How many recorded lines are the printed ones, and how many are not.
@@ -38,17 +41,17 @@ fn next(list: &[u8], end: usize) -> usize
 }
 
 // Prints a record whose line is not the printed one.
-fn tell(text: &[u8], line: &[u8], printed: &[u8]) {
-    io::write_all(1, b"text: ");
-    io::write_all(1, text);
-    io::write_all(1, b"\nrecorded: ");
-    io::write_all(1, line);
-    io::write_all(1, b"printed: ");
-    io::write_all(1, printed);
+fn tell(rt: &impl Print, text: &[u8], line: &[u8], printed: &[u8]) -> io::Result<()> {
+    rt.write_all(b"text: ")?;
+    rt.write_all(text)?;
+    rt.write_all(b"\nrecorded: ")?;
+    rt.write_all(line)?;
+    rt.write_all(b"printed: ")?;
+    rt.write_all(printed)
 }
 
 // Whether `line`, with its line feed, is what is printed for `text`. If not, the three are told.
-fn agrees(text: &[u8], line: &[u8]) -> bool
+fn agrees(rt: &impl Print, text: &[u8], line: &[u8]) -> bool
     ensures { (result ≡ true → Prints text.now line.now) × (Prints text.now line.now → result ≡ true) }
 {
     let mut out = [0; 2048];
@@ -57,15 +60,16 @@ fn agrees(text: &[u8], line: &[u8]) -> bool
         return false;
     };
     let printed = &out[..count];
-    let same = check::same(printed, line);
+    let same = printed == line;
     if !same {
-        tell(text, line, printed);
+        // Where it cannot be told, the count still shows it.
+        let _ = tell(rt, text, line, printed);
     }
     same
 }
 
 // Replays every program of the list.
-fn replayed(list: &[u8]) -> Tally
+fn replayed(rt: &impl Print, list: &[u8]) -> Tally
     ensures { Replayed list.now (length list.now) result.agree result.differ }
 {
     let mut tally = Tally {
@@ -78,7 +82,7 @@ fn replayed(list: &[u8]) -> Tally
         let line = next(list, text_end);
         let line_end = line_end(list, line);
         let then = next(list, line_end);
-        if agrees(&list[at..text_end], &list[line..then]) {
+        if agrees(rt, &list[at..text_end], &list[line..then]) {
             tally.agree += 1;
         } else {
             tally.differ += 1;
@@ -95,18 +99,24 @@ fn room() -> [u8; 2097152]
     [0; 2097152]
 }
 
-fn main() {
-    let name = b"answers.txt";
-    let file = os::open_read(name);
-    if file < 0 {
-        os::fail(name);
-        return;
+// Reads until the list is full, the file ends or a read fails, and tells how many bytes it put at the list's start.
+fn read_full(file: &mut File, list: &mut [u8]) -> usize
+    ensures { result ≤ length list.new }
+{
+    let mut done = 0;
+    while done < list.len() {
+        match file.read(&mut list[done..]) {
+            Ok(count) if 0 < count => done += count,
+            _ => break,
+        }
     }
+    done
+}
+
+fn main(rt: HostRuntime) -> io::Result<()> {
+    let mut file = File::open(&rt, "answers.txt")?;
     let mut list = room();
-    let n = io::read_full(file, &mut list);
-    let tally = replayed(&list[..n]);
-    io::print_decimal(1, tally.agree);
-    io::write_all(1, b" agree, ");
-    io::print_decimal(1, tally.differ);
-    io::write_all(1, b" differ\n");
+    let length = read_full(&mut file, &mut list);
+    let Tally { agree, differ } = replayed(&rt, &list[..length]);
+    println!(rt; "{agree} agree, {differ} differ")
 }
