@@ -1,7 +1,6 @@
 //! Compares Woolquern with genfer, and both with a model of document 01.
 //!
-//! The host starts as a C program does: the emulator that runs it where the machine is not an x86-64
-//! one cannot bear Rust's own start.
+//! The host starts as a C program does: an emulator of x86-64 (qemu 8.2.2) cannot bear Rust's own start.
 #![no_main]
 #![allow(unknown_lints, unexpected_cfgs)]
 
