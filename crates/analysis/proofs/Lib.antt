@@ -1,4 +1,5 @@
 -- How the code follows the rules and the trace.
+pub mod Passed
 pub mod Says
 pub mod Steps
 pub mod Turns
