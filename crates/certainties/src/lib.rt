@@ -12,19 +12,19 @@ use text::{Printed, Reading};
 use words::Checked;
 
 fn analyse(words: &[u64], n: usize, start: Start, unroll: usize) -> Answer
-    ensures { (long : length start.cells ≡ 64) → Analyse (record { words = words.entry.now; n = n; start = start; unroll = unroll; sixty_four = long }) result }
+    ensures { (long : length start.cells ≡ 64) → Analyse (record { words = words.now; n = n; start = start; unroll = unroll; sixty_four = long }) result }
 {
     analysis::analyse(words, n, start, unroll)
 }
 
 fn analyse_marked(words: &[u64], n: usize, start: Start, unroll: usize) -> Marked
-    ensures { (long : length start.cells ≡ 64) → AnalyseMarked (record { words = words.entry.now; n = n; start = start; unroll = unroll; sixty_four = long }) result }
+    ensures { (long : length start.cells ≡ 64) → AnalyseMarked (record { words = words.now; n = n; start = start; unroll = unroll; sixty_four = long }) result }
 {
     analysis::analyse_marked(words, n, start, unroll)
 }
 
 fn analyse_loop(words: &[u64], n: usize, start: Start, unroll: usize) -> LoopAnswer
-    ensures { (long : length start.cells ≡ 64) → AnalyseLoop (record { words = words.entry.now; n = n; start = start; unroll = unroll; sixty_four = long }) result }
+    ensures { (long : length start.cells ≡ 64) → AnalyseLoop (record { words = words.now; n = n; start = start; unroll = unroll; sixty_four = long }) result }
 {
     analysis::analyse_loop(words, n, start, unroll)
 }

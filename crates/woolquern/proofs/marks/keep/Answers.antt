@@ -1,5 +1,5 @@
 -- The marks are put only where the line was.
-use Rattle.std.proofs.Common.{length, take, sym, ◌∙◌, arith}
+use Rattle.std.proofs.Common.{take, ◌∙◌, arith}
 use Rattle.std.proofs.Math.Seq.{length-take-le}
 use Rattle.text.proofs.Drafts.{put_front}
 use Rattle.woolquern.proofs.Kept.{kept_by, beside_by}
