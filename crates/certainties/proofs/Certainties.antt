@@ -47,7 +47,7 @@ use Rattle.words.proofs.Unique.{code_injective}
 use Rattle.words.proofs.Exact.{sound_is_program, program_is_sound}
 use Rattle.analysis.specs.declared.Marked.{Marked}
 use Rattle.analysis.specs.declared.LoopAnswer.{LoopAnswer}
-use Rattle.analysis.specs.Entries.{marked, begun}
+use Rattle.analysis.specs.Entries.{begun}
 use Rattle.analysis.specs.Outcomes.{looped}
 use Rattle.analysis.proofs.Says.{answered_good, answered_refused}
 use Rattle.analysis.proofs.Entries.{too_long, too_wide, too_deep, let_in, analysed_unadmitted, analysed_bad, analysed_read, entered_none, marks_none}
