@@ -3,7 +3,7 @@
 # archives of `rt lib`. Debian's rustc is fetched by apt-get with a state of its own and unpacked below
 # DIR: no root, nothing of the system is changed. Linker and C library are the Rattle kit's.
 # Needs: Debian 12 with a mirror in its sources, apt-get, apt-cache, dpkg-deb; the kit at
-# $RATTLE_HOME or beside the guide that `rt doc` names. About 180 MB fetched, 700 MB on disk.
+# $RATTLE_HOME or beside the guide that `rt doc` names. About 110 MB fetched, 550 MB on disk.
 set -eu
 [ $# -eq 1 ] || { echo "usage: x86-rust-setup.sh DIR" >&2; exit 2; }
 mkdir -p "$1"; D=$(cd "$1" && pwd -P)

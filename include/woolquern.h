@@ -1,5 +1,5 @@
 /* Woolquern's functions for C. The library is target/staticlib/libwoolquern.a, for x86-64 Linux:
- * `rt staticlib woolquern` proves it and writes it.
+ * `./library` proves it and writes it.
  *
  * A text is a rule in words, a JSON array of unsigned integers; bytes that are none are refused. Each
  * buffer is a pointer and a length, may hold anything before a call, and overlaps no other of that

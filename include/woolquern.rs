@@ -1,5 +1,5 @@
 // Woolquern's functions for Rust, as `woolquern.h` declares them for C: `include!` this file, and
-// link target/staticlib/libwoolquern.a (x86-64 Linux; `rt staticlib woolquern` proves and writes it).
+// link target/staticlib/libwoolquern.a (x86-64 Linux; `./library` proves and writes it).
 //
 // A slice is a pointer and a length; no two of the slices of one call may overlap. Every function
 // gives the number of bytes that it wrote to the start of `out`: one line with its line feed. It
