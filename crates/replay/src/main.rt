@@ -3,8 +3,8 @@
 #![tactic(auto)]
 
 ghost use Rattle.std.specs.Prelude.{◌≡◌, true, ◌≤◌, length};
+ghost use Rattle.replay.specs.Records as records;
 ghost use Rattle.replay.specs.Records.{Line, Prints, Replayed};
-ghost use Rattle.replay.specs.Records.{next as Records·next};
 
 use std::fs::File;
 use std::io;
@@ -35,7 +35,7 @@ fn line_end(list: &[u8], from: usize) -> usize
 
 // Where the line after the one that ends at `end` begins: after the line feed, or at the list's end.
 fn next(list: &[u8], end: usize) -> usize
-    ensures { result ≡ Records·next list.now end }
+    ensures { result ≡ records.next list.now end }
 {
     if end < list.len() { end + 1 } else { end }
 }
