@@ -18,7 +18,7 @@ use Rattle.states.specs.States as states
 use Rattle.states.specs.Starts as starts
 use Rattle.states.proofs.Starts.{Begun, Said, too_many, lowest, one_empty, as_given, started_says}
 use Rattle.paper.specs.Tree.{Unroll, Event, While, Statements, done, ◌then◌}
-use Rattle.paper.specs.Code as code_of_lem
+use Rattle.paper.specs.Code as code_of
 use Rattle.paper.specs.Limits.{IsProgram}
 use Rattle.paper.specs.Reader as reader
 use Rattle.paper.specs.Reader.{Read as Reads}
@@ -155,7 +155,7 @@ over_a_limit i r e over = e ∙ ap answered (analysed_unadmitted i.words i.n i.u
     go (inr (inr h)) (yes a) (yes b) = too_deep i.words i.n i.unroll i.start.cells a b h
 
 -- a program's words are read
-is_read : {n : ℕ} {ws : List ℕ} (p : IsProgram n ws) → reader.program ws n ≡ Reads p.tree (length (code_of_lem.program p.tree))
+is_read : {n : ℕ} {ws : List ℕ} (p : IsProgram n ws) → reader.program ws n ≡ Reads p.tree (length (code_of.program p.tree))
 is_read {n} {ws} p = ap (λ (l : List ℕ). reader.program l n) p.is ∙ code_is_read n p.tree p.within
 
 -- how a loop's own entry begins
@@ -168,8 +168,8 @@ no_loop [] one h = absurd (omega arith)
 no_loop (x ∷ []) one h = begins_short (x ∷ []) one refl
 no_loop (x ∷ y ∷ ws) one h = begins_unlike (x ∷ y ∷ ws) one (omega arith) h
 
-loop_begins : (ws : List ℕ) (u : Unroll) (e : Event) (b : Statements) → ws ≡ code_of_lem.program (While u e b then done) → Good ≡ begun (answers.begins ws)
-unfolding code_of_lem.count code_of_lem.list code_of_lem.statement
+loop_begins : (ws : List ℕ) (u : Unroll) (e : Event) (b : Statements) → ws ≡ code_of.program (While u e b then done) → Good ≡ begun (answers.begins ws)
+unfolding code_of.count code_of.list code_of.statement
 loop_begins ws u e b is =
     begins_loop ws (ap (λ (l : List ℕ). get_or l 0 0) is) (omega (arith, ap length is)) (ap (λ (l : List ℕ). get_or l 1 0) is)
 
@@ -177,7 +177,7 @@ loop_by_the_rules : (i : Input) (r : LoopAnswer) (s : State) (p : IsProgram i.n 
     r ≡ looped (analysed_at (page.setting i) (record { unroll = u; event = e; body = b; place = 1; from = s }))
 loop_by_the_rules i r s p u e b q start one =
     q
-    ∙ ap looped (looped_read i.words i.n i.unroll i.start.cells start (loop_begins i.words u e b (p.is ∙ ap code_of_lem.program one)) (is_read p)
+    ∙ ap looped (looped_read i.words i.n i.unroll i.start.cells start (loop_begins i.words u e b (p.is ∙ ap code_of.program one)) (is_read p)
     ∙ ap (λ (t : Statements). answers.only_loop (page.setting i) t s) one)
 
 as_document_01_says : page.AsDocument01Says
