@@ -193,7 +193,7 @@ fn count(start: u32, end: u32) -> u64
 // The values of a given variable, by whether the state is not empty and by the variable's range in it.
 pub fn values(live: bool, range: Range) -> Values
     ensures value { result ≡ stages.values_of live range }
-    ensures by_index { (start count : ℕ) → result ≡ From start count → start + count ≤ 2 ^ 32 }
+    ensures within_32_bits { (start count : ℕ) → result ≡ From start count → start + count ≤ 2 ^ 32 }
 {
     if !live {
         return Values::Unbounded;

@@ -45,7 +45,7 @@ fn summed(first: Range, offset: u32, product: Bounded) -> Bounded
 // The variable that a plain statement reads besides its own; its own where there is no other.
 pub fn source(words: &[u64], n: usize) -> usize
     requires statement_is { StatementIs n words.now }
-    requires words_bound { get_or words.now 0 0 < 4 }
+    requires plain_kind { get_or words.now 0 0 < 4 }
     ensures { (c : Statement) → words.now ≡ code.statement c → result ≡ plain.source c }
 {
     if words[0] == 2 {
@@ -59,7 +59,7 @@ pub fn source(words: &[u64], n: usize) -> usize
 // The new range of its variable, from the old ranges of its own variable and of the one that it reads.
 pub fn change(words: &[u64], n: usize, own: Range, read: Range) -> Bounded
     requires statement_is { StatementIs n words.now }
-    requires words_bound { get_or words.now 0 0 < 4 }
+    requires plain_kind { get_or words.now 0 0 < 4 }
     ensures { (c : Statement) → words.now ≡ code.statement c → result ≡ plain.change c own read }
 {
     if words[0] == 3 {

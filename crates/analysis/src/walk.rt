@@ -93,7 +93,7 @@ fn statement(
     marks: &mut [u8],
 ) -> Answer
     requires statement_is { StatementIs n words.now }
-    requires bound { 4 ≤ get_or words.now 0 0 }
+    requires other_kind { 4 ≤ get_or words.now 0 0 }
     requires n_bound { n ≤ 64 }
     requires unroll_bound { unroll ≤ 10000 }
     requires words_in_bounds { base + length words.now ≤ length marks.old }
@@ -139,7 +139,7 @@ fn branch(
     marks: &mut [u8],
 ) -> Answer
     requires statement_is { StatementIs n words.now }
-    requires words_value { get_or words.now 0 0 ≡ 4 }
+    requires if_kind { get_or words.now 0 0 ≡ 4 }
     requires n_bound { n ≤ 64 }
     requires unroll_bound { unroll ≤ 10000 }
     requires words_in_bounds { base + length words.now ≤ length marks.old }
@@ -363,7 +363,7 @@ fn settle(
 fn leave(words: &[u64], base: usize, n: usize, state: State) -> Answer
     requires loop_is { LoopIs n words.now }
     requires n_bound { n ≤ 64 }
-    requires words_bound { base + length words.now < 2 ^ 64 }
+    requires places_fit { base + length words.now < 2 ^ 64 }
     ensures { (d : ℕ) (u : Unroll) (e : Event) (b : Statements) → words.now ≡ code.statement (While u e b) → result ≡ answered (noted.exit_by (setting n d) base e b state) }
 {
     let body = ends::event_end(words, 3);

@@ -39,7 +39,7 @@ fn cut(range: Range, values: &[u64], at: usize) -> Parted
 pub fn sides(words: &[u64], base: usize, n: usize, mut state: State) -> Sides
     requires event_is { EventIs n words.now }
     requires n_bound { n ≤ 64 }
-    requires words_bound { base + length words.now < 2 ^ 64 }
+    requires places_fit { base + length words.now < 2 ^ 64 }
     ensures { (u : ℕ) (e : Event) → words.now ≡ code.event e → result ≡ sided (rules.event (record { n = n; unroll = u }) base e state) }
 {
     let kind = words[0];
@@ -88,7 +88,7 @@ pub fn sides(words: &[u64], base: usize, n: usize, mut state: State) -> Sides
 fn intersection(words: &[u64], base: usize, n: usize, state: State) -> Sides
     requires events_are { EventsAre n words.now }
     requires n_bound { n ≤ 64 }
-    requires words_bound { base + length words.now < 2 ^ 64 }
+    requires places_fit { base + length words.now < 2 ^ 64 }
     ensures { (u : ℕ) (es : Events) → words.now ≡ conjunction es → result ≡ sided (rules.events (record { n = n; unroll = u }) (base + 1) es (record { yes = state; no = states.empty })) }
 {
     let mut left = words[0];

@@ -24,10 +24,6 @@ retain_next range values i kept next l n e =
     rw (drop-cons values i 0 l, add-one, n) (sym (join_assoc kept (cond (ranges.holds range x) (ranges.around x) Empty) (ranges.retain range (drop (suc i) values)))) in
     e ∙ p
 
--- a value that is not inside adds nothing
-pub retain_skips : (kept added : Range) → added ≡ Empty → kept ≡ ranges.join kept added
-retain_skips kept added e = rw e (sym (join_empty kept))
-
 -- where no value is ahead, what is kept is the answer
 pub retain_end :
     (range : Range) (values : List ℕ) (i : ℕ) (kept : Range) → length values ≤ i →

@@ -159,7 +159,7 @@ pub fn line_length(answer: Answer, n: usize) -> usize
 
 // Prints the answer for n variables as one line: how many bytes, or that the buffer is shorter, and then it is left as it was. 2,048 bytes are always enough.
 pub fn line(answer: Answer, n: usize, out: &mut [u8]) -> Printed
-    ensures out_after { answers.leaves (answers.of_printed result) out.new ≡ lines.printed (lines.line n (answers.of_answer answer)) out.old }
+    ensures what_is_left { answers.leaves (answers.of_printed result) out.new ≡ lines.printed (lines.line n (answers.of_answer answer)) out.old }
     ensures out_len_bound { result ≡ Short → length out.old < 2048 }
 {
     let mut draft = [0u8; 2048];

@@ -248,7 +248,7 @@ pub fn pass(text: &[u8], words: &mut [u64]) -> Found
 #[tactic(auto, using(crate::proofs::Agree::says_outcome, crate::proofs::Passes::out_breaks, crate::proofs::Passes::out_many))]
 pub fn read(text: &[u8], words: &mut [u64]) -> Reading
     ensures says { Says text.now words.old (answers.leaves (answers.of_reading result) words.new) }
-    ensures words_after { answers.leaves (answers.of_reading result) words.new ≡ machine.outcome text.now words.old }
+    ensures what_is_left { answers.leaves (answers.of_reading result) words.new ≡ machine.outcome text.now words.old }
 {
     if 65536 < text.len() {
         return Reading::Refused(2, 0);

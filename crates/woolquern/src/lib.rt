@@ -31,7 +31,7 @@ fn zeros() -> Start
 
 // Prints a refusal.
 fn refuse(number: u64, place: usize, out: &mut [u8]) -> Printed
-    ensures out_after { leaves (of_printed result) out.new ≡ printed (job.refusal number place) out.old }
+    ensures what_is_left { leaves (of_printed result) out.new ≡ printed (job.refusal number place) out.old }
     ensures out_len_bound { result ≡ Short → length out.old < 2048 }
 {
     text::line(states::refused(number, place), 0, out)
@@ -39,7 +39,7 @@ fn refuse(number: u64, place: usize, out: &mut [u8]) -> Printed
 
 // The line for a list of words.
 fn run_words(words: &[u64], out: &mut [u8]) -> Printed
-    ensures out_after { leaves (of_printed result) out.new ≡ printed (job.line_of (answers.ran words.now)) out.old }
+    ensures what_is_left { leaves (of_printed result) out.new ≡ printed (job.line_of (answers.ran words.now)) out.old }
     ensures out_len_bound { result ≡ Short → length out.old < 2048 }
 {
     if 8192 < words.len() {
@@ -57,7 +57,7 @@ fn run_words(words: &[u64], out: &mut [u8]) -> Printed
 // The line for a text that may hold 8,192 words.
 fn run_long(text: &[u8], out: &mut [u8]) -> Printed
     requires { length text.now ≤ 65536 }
-    ensures out_after { leaves (of_printed result) out.new ≡ job.run text.now out.old }
+    ensures what_is_left { leaves (of_printed result) out.new ≡ job.run text.now out.old }
     ensures out_len_bound { result ≡ Short → length out.old < 2048 }
 {
     let mut words = [0; 8192];
@@ -75,7 +75,7 @@ fn run_long(text: &[u8], out: &mut [u8]) -> Printed
 // The line for a short text, which need not pay for clearing 8,192 words.
 fn run_short(text: &[u8], out: &mut [u8]) -> Printed
     requires { length text.now ≤ 65536 }
-    ensures out_after { leaves (of_printed result) out.new ≡ job.run text.now out.old }
+    ensures what_is_left { leaves (of_printed result) out.new ≡ job.run text.now out.old }
     ensures out_len_bound { result ≡ Short → length out.old < 2048 }
 {
     let mut words = [0; 256];
@@ -92,7 +92,7 @@ fn run_short(text: &[u8], out: &mut [u8]) -> Printed
 
 // Prints the line for a text: how many bytes, or that the buffer is shorter, and then it is left as it was. 2,048 bytes are always enough.
 pub fn run(text: &[u8], out: &mut [u8]) -> Printed
-    ensures out_after { leaves (of_printed result) out.new ≡ job.run text.now out.old }
+    ensures what_is_left { leaves (of_printed result) out.new ≡ job.run text.now out.old }
     ensures out_len_bound { result ≡ Short → length out.old < 2048 }
 {
     if 65536 < text.len() {

@@ -19,7 +19,7 @@ fn keep(
     settled: &mut [u8],
     out: &mut [u8],
 ) -> Printed
-    ensures out_after { job.all_left (of_printed result) counts.new settled.new out.new ≡ job.looping (and_then (loop_of found n) (λ l. job.with_room (length counts.old) (length settled.old) l)) counts.old settled.old out.old }
+    ensures what_is_left { job.all_left (of_printed result) counts.new settled.new out.new ≡ job.looping (and_then (loop_of found n) (λ l. job.with_room (length counts.old) (length settled.old) l)) counts.old settled.old out.old }
     ensures out_len_bound { result ≡ Short → length out.old < 2048 }
 {
     let verdict = found.verdict;
@@ -55,7 +55,7 @@ fn run_words(
     settled: &mut [u8],
     out: &mut [u8],
 ) -> Printed
-    ensures out_after { job.all_left (of_printed result) counts.new settled.new out.new ≡ job.looping (and_then (job.ran_loop words.now unroll) (λ l. job.with_room (length counts.old) (length settled.old) l)) counts.old settled.old out.old }
+    ensures what_is_left { job.all_left (of_printed result) counts.new settled.new out.new ≡ job.looping (and_then (job.ran_loop words.now unroll) (λ l. job.with_room (length counts.old) (length settled.old) l)) counts.old settled.old out.old }
     ensures out_len_bound { result ≡ Short → length out.old < 2048 }
 {
     if 8192 < words.len() {
@@ -78,7 +78,7 @@ pub fn run_loop(
     settled: &mut [u8],
     out: &mut [u8],
 ) -> Printed
-    ensures out_after { job.all_left (of_printed result) counts.new settled.new out.new ≡ job.run_loop text.now unroll counts.old settled.old out.old }
+    ensures what_is_left { job.all_left (of_printed result) counts.new settled.new out.new ≡ job.run_loop text.now unroll counts.old settled.old out.old }
     ensures out_len_bound { result ≡ Short → length out.old < 2048 }
 {
     let mut words = [0; 8192];

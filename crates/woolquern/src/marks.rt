@@ -13,7 +13,7 @@ use words::Checked;
 // The line of what was found for so many words, and the marks beside it.
 fn keep(found: Marked, n: usize, count: usize, marks: &mut [u8], out: &mut [u8]) -> Printed
     requires { count ≤ length found.marks }
-    ensures out_after { job.left (of_printed result) marks.new out.new ≡ job.marking (found_in found n count (length marks.old)) marks.old out.old }
+    ensures what_is_left { job.left (of_printed result) marks.new out.new ≡ job.marking (found_in found n count (length marks.old)) marks.old out.old }
     ensures out_len_bound { result ≡ Short → length out.old < 2048 }
 {
     let answer = found.answer;
@@ -35,7 +35,7 @@ fn keep(found: Marked, n: usize, count: usize, marks: &mut [u8], out: &mut [u8])
 
 // The line for a list of words, and the marks beside it.
 fn run_words(words: &[u64], marks: &mut [u8], out: &mut [u8]) -> Printed
-    ensures out_after { job.left (of_printed result) marks.new out.new ≡ job.marking (job.entered_by words.now (length marks.old)) marks.old out.old }
+    ensures what_is_left { job.left (of_printed result) marks.new out.new ≡ job.marking (job.entered_by words.now (length marks.old)) marks.old out.old }
     ensures out_len_bound { result ≡ Short → length out.old < 2048 }
 {
     if 8192 < words.len() {
@@ -52,7 +52,7 @@ fn run_words(words: &[u64], marks: &mut [u8], out: &mut [u8]) -> Printed
 
 // Prints the line for a text, and beside it a byte for each word: 1 at the count of a list that was entered with a state that is not empty.
 pub fn run_marked(text: &[u8], marks: &mut [u8], out: &mut [u8]) -> Printed
-    ensures out_after { job.left (of_printed result) marks.new out.new ≡ job.run_marked text.now marks.old out.old }
+    ensures what_is_left { job.left (of_printed result) marks.new out.new ≡ job.run_marked text.now marks.old out.old }
     ensures out_len_bound { result ≡ Short → length out.old < 2048 }
 {
     let mut words = [0; 8192];

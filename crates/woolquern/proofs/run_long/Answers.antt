@@ -7,7 +7,7 @@ use Rattle.woolquern.specs.Job.{line_of}
 use Rattle.woolquern.proofs.Jobs.{text_words}
 use Rattle.woolquern.proofs.run_long.Goals as goal
 
-pub returns-else-count-gt8192-clause-out_after : goal.returns-else-count-gt8192-clause-out_after
-returns-else-count-gt8192-clause-out_after c =
+pub returns-else-count-gt8192-clause-what_is_left : goal.returns-else-count-gt8192-clause-what_is_left
+returns-else-count-gt8192-clause-what_is_left c =
     let e = (text_words c.args.text.now c.requires c.pass.ensures.value 8192 c.in-Holds.is (omega arith) c.if-count-gt8192.false c.pass.ensures.words_after).words in
-    c.run_words.ensures.out_after ∙ ap (λ (x : Answer (List ℕ)). printed (line_of (and_then x ran)) c.args.out.now) e
+    c.run_words.ensures.what_is_left ∙ ap (λ (x : Answer (List ℕ)). printed (line_of (and_then x ran)) c.args.out.now) e

@@ -10,20 +10,20 @@ use Rattle.woolquern.specs.Job.{line_of}
 use Rattle.woolquern.proofs.Jobs.{ran_long, ran_bad, ran_line}
 use Rattle.woolquern.proofs.run_words.Goals as goal
 
-pub returns-then-words-gt8192-clause-out_after : goal.returns-then-words-gt8192-clause-out_after
-returns-then-words-gt8192-clause-out_after c =
-    c.refuse.ensures.out_after ∙ ap (λ (a : Answer Outcome). printed (line_of a) c.args.out.now) (sym (ran_long c.args.words.now c.if-words-gt8192.true))
+pub returns-then-words-gt8192-clause-what_is_left : goal.returns-then-words-gt8192-clause-what_is_left
+returns-then-words-gt8192-clause-what_is_left c =
+    c.refuse.ensures.what_is_left ∙ ap (λ (a : Answer Outcome). printed (line_of a) c.args.out.now) (sym (ran_long c.args.words.now c.if-words-gt8192.true))
 
-pub returns-in-Refused-clause-out_after : goal.returns-in-Refused-clause-out_after
-returns-in-Refused-clause-out_after c =
-    c.refuse-in-Refused.ensures.out_after
+pub returns-in-Refused-clause-what_is_left : goal.returns-in-Refused-clause-what_is_left
+returns-in-Refused-clause-what_is_left c =
+    c.refuse-in-Refused.ensures.what_is_left
     ∙ ap (λ (a : Answer Outcome). printed (line_of a) c.args.out.now) (sym (ran_bad c.args.words.now c.if-words-gt8192.false (sym c.in-Refused.is ∙ c.check.ensures)))
 
-pub returns-in-Sound-clause-out_after : goal.returns-in-Sound-clause-out_after
-returns-in-Sound-clause-out_after c =
+pub returns-in-Sound-clause-what_is_left : goal.returns-in-Sound-clause-what_is_left
+returns-in-Sound-clause-what_is_left c =
     let words = c.args.words.now in
     let n = c.in-Sound.n in
     let out = c.args.out.now in
-    c.line.ensures.out_after
+    c.line.ensures.what_is_left
     ∙ ap (λ (a : code.Answer). printed (line n (of_answer a)) out) (c.analyse-answer.ensures ∙ ap (λ (cs : List Cell). answered (analysed words n cs 0)) c.zeros.ensures)
     ∙ ap (λ (bytes : List ℕ). printed bytes out) (ran_line words c.if-words-gt8192.false (sym c.in-Sound.is ∙ c.check.ensures))

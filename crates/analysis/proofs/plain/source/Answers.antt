@@ -17,8 +17,8 @@ pub returns-then-words-eq1 : goal.returns-then-words-eq1
 returns-then-words-eq1 c = λ d e. reads_another c.args.words.now d e c.if-words-eq2.true c.if-words-eq1.true
 
 pub bounds-words-1 : goal.bounds-words-1
-bounds-words-1 c = let p = c.requires.statement_is in omega (arith, plain_long c.args.words.now p.tree p.is c.requires.words_bound)
+bounds-words-1 c = let p = c.requires.statement_is in omega (arith, plain_long c.args.words.now p.tree p.is c.requires.plain_kind)
 
 pub returns : goal.returns
-returns c = λ d e. reads_own c.args.words.now d e c.requires.words_bound
+returns c = λ d e. reads_own c.args.words.now d e c.requires.plain_kind
     (elim c.if-words-eq2.branch [ then-words-eq2+else-words-eq1 w ↦ λ k h. w.if-words-eq1.false h | else-words-eq2 w ↦ λ k h. w.if-words-eq2.false k ])

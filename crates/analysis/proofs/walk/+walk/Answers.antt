@@ -29,106 +29,106 @@ use Rattle.analysis.proofs.walk.+walk.Goals.{search-then-not-exits, search-else-
 -- branch: the event stands at 1, the then-list after it, the else-list after that; each way past them is an if's.
 
 pub branch-event_end-then-requires : goal.branch-event_end-then-requires
-branch-event_end-then-requires t c = let p = c.requires.statement_is in branch_event c.args.words.now p.tree p.is c.requires.words_value
+branch-event_end-then-requires t c = let p = c.requires.statement_is in branch_event c.args.words.now p.tree p.is c.requires.if_kind
 
 pub branch-list_end-otherwise-requires : goal.branch-list_end-otherwise-requires
-branch-list_end-otherwise-requires t c = let p = c.requires.statement_is in branch_then c.args.words.now p.tree p.is c.requires.words_value c.event_end-then.result c.event_end-then.ensures
+branch-list_end-otherwise-requires t c = let p = c.requires.statement_is in branch_then c.args.words.now p.tree p.is c.requires.if_kind c.event_end-then.result c.event_end-then.ensures
 
 pub branch-slice_bounds-sides-count : goal.branch-slice_bounds-sides-count
 branch-slice_bounds-sides-count t c =
-    let k = branch_inside c.requires.statement_is c.requires.words_value c.event_end-then.ensures c.list_end-otherwise.ensures in
+    let k = branch_inside c.requires.statement_is c.requires.if_kind c.event_end-then.ensures c.list_end-otherwise.ensures in
     omega arith
 
 pub branch-slice_bounds-sides-start : goal.branch-slice_bounds-sides-start
 branch-slice_bounds-sides-start t c =
-    let k = branch_inside c.requires.statement_is c.requires.words_value c.event_end-then.ensures c.list_end-otherwise.ensures in
+    let k = branch_inside c.requires.statement_is c.requires.if_kind c.event_end-then.ensures c.list_end-otherwise.ensures in
     omega arith
 
 pub branch-slice_bounds-sides-end : goal.branch-slice_bounds-sides-end
 branch-slice_bounds-sides-end t c =
-    let k = branch_inside c.requires.statement_is c.requires.words_value c.event_end-then.ensures c.list_end-otherwise.ensures in
+    let k = branch_inside c.requires.statement_is c.requires.if_kind c.event_end-then.ensures c.list_end-otherwise.ensures in
     omega arith
 
 pub branch-mark-requires : goal.branch-mark-requires
 branch-mark-requires t c =
-    let k = branch_inside c.requires.statement_is c.requires.words_value c.event_end-then.ensures c.list_end-otherwise.ensures in
+    let k = branch_inside c.requires.statement_is c.requires.if_kind c.event_end-then.ensures c.list_end-otherwise.ensures in
     omega arith
 
 pub branch-slice_bounds-list-count : goal.branch-slice_bounds-list-count
 branch-slice_bounds-list-count t c =
-    let k = branch_inside c.requires.statement_is c.requires.words_value c.event_end-then.ensures c.list_end-otherwise.ensures in
+    let k = branch_inside c.requires.statement_is c.requires.if_kind c.event_end-then.ensures c.list_end-otherwise.ensures in
     omega arith
 
 pub branch-slice_bounds-list-start : goal.branch-slice_bounds-list-start
 branch-slice_bounds-list-start t c =
-    let k = branch_inside c.requires.statement_is c.requires.words_value c.event_end-then.ensures c.list_end-otherwise.ensures in
+    let k = branch_inside c.requires.statement_is c.requires.if_kind c.event_end-then.ensures c.list_end-otherwise.ensures in
     omega arith
 
 pub branch-slice_bounds-list-end : goal.branch-slice_bounds-list-end
 branch-slice_bounds-list-end t c =
-    let k = branch_inside c.requires.statement_is c.requires.words_value c.event_end-then.ensures c.list_end-otherwise.ensures in
+    let k = branch_inside c.requires.statement_is c.requires.if_kind c.event_end-then.ensures c.list_end-otherwise.ensures in
     omega arith
 
 pub branch-mark-requires-2 : goal.branch-mark-requires-2
 branch-mark-requires-2 t c =
-    let k = branch_inside c.requires.statement_is c.requires.words_value c.event_end-then.ensures c.list_end-otherwise.ensures in
+    let k = branch_inside c.requires.statement_is c.requires.if_kind c.event_end-then.ensures c.list_end-otherwise.ensures in
     omega arith
 
 pub branch-sides-t-requires-clause-event_is : goal.branch-sides-t-requires-clause-event_is
-branch-sides-t-requires-clause-event_is t c = branch_event_is c.requires.statement_is c.requires.words_value c.event_end-then.ensures c.list_end-otherwise.ensures
+branch-sides-t-requires-clause-event_is t c = branch_event_is c.requires.statement_is c.requires.if_kind c.event_end-then.ensures c.list_end-otherwise.ensures
 
 pub branch-list-a-requires : goal.branch-list-a-requires
 branch-list-a-requires t c =
-    let k = branch_inside c.requires.statement_is c.requires.words_value c.event_end-then.ensures c.list_end-otherwise.ensures in
+    let k = branch_inside c.requires.statement_is c.requires.if_kind c.event_end-then.ensures c.list_end-otherwise.ensures in
     let e = ap length k.then_part in (
       omega (arith, k.q_is),
-      (branch_then_is c.requires.statement_is c.requires.words_value c.event_end-then.ensures c.list_end-otherwise.ensures, (c.requires.n_bound, (c.requires.unroll_bound, omega (arith, k.q_is)))),
+      (branch_then_is c.requires.statement_is c.requires.if_kind c.event_end-then.ensures c.list_end-otherwise.ensures, (c.requires.n_bound, (c.requires.unroll_bound, omega (arith, k.q_is)))),
     )
 
 pub branch-list-b-requires : goal.branch-list-b-requires
 branch-list-b-requires t c =
-    let k = branch_inside c.requires.statement_is c.requires.words_value c.event_end-then.ensures c.list_end-otherwise.ensures in
+    let k = branch_inside c.requires.statement_is c.requires.if_kind c.event_end-then.ensures c.list_end-otherwise.ensures in
     let e = ap length k.else_part in (
       omega (arith, k.q_is),
-      (branch_else_is c.requires.statement_is c.requires.words_value c.event_end-then.ensures c.list_end-otherwise.ensures, (c.requires.n_bound, (c.requires.unroll_bound, omega (arith, k.q_is)))),
+      (branch_else_is c.requires.statement_is c.requires.if_kind c.event_end-then.ensures c.list_end-otherwise.ensures, (c.requires.n_bound, (c.requires.unroll_bound, omega (arith, k.q_is)))),
     )
 
 pub branch-returns-in-Refused : goal.branch-returns-in-Refused
 branch-returns-in-Refused t c = λ x h.
-    let k = branch_cut c.args.words.now x h c.requires.words_value c.event_end-then.result c.event_end-then.ensures c.list_end-otherwise.result c.list_end-otherwise.ensures in
+    let k = branch_cut c.args.words.now x h c.requires.if_kind c.event_end-then.result c.event_end-then.ensures c.list_end-otherwise.result c.list_end-otherwise.ensures in
     let o = c.sides-t.ensures c.args.unroll k.event k.event_part in
     let j = if_unsplit (setting c.args.n c.args.unroll) c.args.base k c.args.state c.sides-t.result o c.args.marks.now c.in-Refused.is in
     record { out = c.refused.ensures ∙ j.out; marks = j.marks }
 
 pub branch-returns-in-Refused-first : goal.branch-returns-in-Refused-first
 branch-returns-in-Refused-first t c = λ x h.
-    let k = branch_cut c.args.words.now x h c.requires.words_value c.event_end-then.result c.event_end-then.ensures c.list_end-otherwise.result c.list_end-otherwise.ensures in
+    let k = branch_cut c.args.words.now x h c.requires.if_kind c.event_end-then.result c.event_end-then.ensures c.list_end-otherwise.result c.list_end-otherwise.ensures in
     let o = c.sides-t.ensures c.args.unroll k.event k.event_part in
     if_then_refused (setting c.args.n c.args.unroll) c.args.base k c.args.state c.sides-t.result o c.args.marks.now c.in_default.is c.mark.ensures (c.list-a.ensures k.then_list k.then_part) c.in-Refused-first.is
 
 pub branch-returns-in-Refused-second : goal.branch-returns-in-Refused-second
 branch-returns-in-Refused-second t c = λ x h.
-    let k = branch_cut c.args.words.now x h c.requires.words_value c.event_end-then.result c.event_end-then.ensures c.list_end-otherwise.result c.list_end-otherwise.ensures in
+    let k = branch_cut c.args.words.now x h c.requires.if_kind c.event_end-then.result c.event_end-then.ensures c.list_end-otherwise.result c.list_end-otherwise.ensures in
     let o = c.sides-t.ensures c.args.unroll k.event k.event_part in
     if_else_refused (setting c.args.n c.args.unroll) c.args.base k c.args.state c.sides-t.result o c.args.marks.now c.in_default.is c.mark.ensures (c.list-a.ensures k.then_list k.then_part) c.in_default-first.is c.mark-2.ensures (c.list-b.ensures k.else_list k.else_part) c.in-Refused-second.is
 
 pub branch-returns-then-not-x : goal.branch-returns-then-not-x
 branch-returns-then-not-x t c = λ x h.
-    let k = branch_cut c.args.words.now x h c.requires.words_value c.event_end-then.result c.event_end-then.ensures c.list_end-otherwise.result c.list_end-otherwise.ensures in
+    let k = branch_cut c.args.words.now x h c.requires.if_kind c.event_end-then.result c.event_end-then.ensures c.list_end-otherwise.result c.list_end-otherwise.ensures in
     let o = c.sides-t.ensures c.args.unroll k.event k.event_part in
     let j = if_joined (setting c.args.n c.args.unroll) c.args.base k c.args.state c.sides-t.result o c.args.marks.now c.in_default.is c.mark.ensures (c.list-a.ensures k.then_list k.then_part) c.in_default-first.is c.mark-2.ensures (c.list-b.ensures k.else_list k.else_part) c.in_default-second.is in
     record { out = c.good.ensures ∙ ap (λ (z : State). answered (Gives z)) (join_from_empty c.args.n c.list-a.result.state c.list-b.result.state (not-true c.list-a.result.state.live c.if-not-x.true)) ∙ j.out; marks = j.marks }
 
 pub branch-returns-then-not-y : goal.branch-returns-then-not-y
 branch-returns-then-not-y t c = λ x h.
-    let k = branch_cut c.args.words.now x h c.requires.words_value c.event_end-then.result c.event_end-then.ensures c.list_end-otherwise.result c.list_end-otherwise.ensures in
+    let k = branch_cut c.args.words.now x h c.requires.if_kind c.event_end-then.result c.event_end-then.ensures c.list_end-otherwise.result c.list_end-otherwise.ensures in
     let o = c.sides-t.ensures c.args.unroll k.event k.event_part in
     let j = if_joined (setting c.args.n c.args.unroll) c.args.base k c.args.state c.sides-t.result o c.args.marks.now c.in_default.is c.mark.ensures (c.list-a.ensures k.then_list k.then_part) c.in_default-first.is c.mark-2.ensures (c.list-b.ensures k.else_list k.else_part) c.in_default-second.is in
     record { out = c.good-then-not-y.ensures ∙ ap (λ (z : State). answered (Gives z)) (join_with_empty c.args.n c.list-a.result.state c.list-b.result.state (not-false c.list-a.result.state.live c.if-not-x.false) (not-true c.list-b.result.state.live c.if-not-y.true)) ∙ j.out; marks = j.marks }
 
 pub branch-returns : goal.branch-returns
 branch-returns t c = λ x h.
-    let k = branch_cut c.args.words.now x h c.requires.words_value c.event_end-then.result c.event_end-then.ensures c.list_end-otherwise.result c.list_end-otherwise.ensures in
+    let k = branch_cut c.args.words.now x h c.requires.if_kind c.event_end-then.result c.event_end-then.ensures c.list_end-otherwise.result c.list_end-otherwise.ensures in
     let o = c.sides-t.ensures c.args.unroll k.event k.event_part in
     let j = if_joined (setting c.args.n c.args.unroll) c.args.base k c.args.state c.sides-t.result o c.args.marks.now c.in_default.is c.mark.ensures (c.list-a.ensures k.then_list k.then_part) c.in_default-first.is c.mark-2.ensures (c.list-b.ensures k.else_list k.else_part) c.in_default-second.is in
     record { out = c.good-2.ensures ∙ ap (λ (z : State). answered (Gives z)) c.join-joined.ensures ∙ j.out; marks = j.marks }
@@ -644,7 +644,7 @@ statement-returns-then-kind-eq7 t c = λ s h.
 
 pub statement-returns : goal.statement-returns
 statement-returns t c = λ s h.
-    let x = only_fail s h c.requires.bound c.if-kind-eq4.false c.if-kind-eq5.false c.if-kind-eq7.false in
+    let x = only_fail s h c.requires.other_kind c.if-kind-eq4.false c.if-kind-eq5.false c.if-kind-eq7.false in
     rw (c.good-2.ensures, c.empty-s.ensures, x) (says_fail (setting c.args.n c.args.unroll) c.args.base c.args.state c.args.marks.now)
 
 -- onward: the unrolled passes, settling, the exit.
@@ -780,7 +780,7 @@ normalize-loop-left-init t c =
     let v : c.values-values.result ≡ values_of c.args.state.live (states.get c.args.state (get_or l 0 0)) =
     c.values-values.ensures.value ∙ ap (λ (z : Cell). values_of c.args.state.live z.range) (there c.args.state.cells (get_or l 0 0) _ (omega arith)) in
     record {
-      in_bounds = c.values-values.ensures.by_index c.in-From.start c.in-From.count c.in-From.is;
+      in_bounds = c.values-values.ensures.within_32_bits c.in-From.start c.in-From.count c.in-From.is;
       live = from_live c.args.state.live _ (sym c.in-From.is ∙ v);
       leads = λ b h. rw c.empty-joined.ensures (given_leads (setting c.args.n c.args.unroll) c.args.place c.args.base b c.args.state l some c.args.marks.now v c.in-From.is);
     }

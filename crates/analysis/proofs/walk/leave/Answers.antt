@@ -23,10 +23,10 @@ overflow_add-base c = let k = loop_inside c.requires.loop_is c.event_end-body.re
 pub sides-t-requires-clause-event_is : goal.sides-t-requires-clause-event_is
 sides-t-requires-clause-event_is c = loop_event_is c.requires.loop_is c.event_end-body.result c.event_end-body.ensures
 
-pub sides-t-requires-clause-words_bound : goal.sides-t-requires-clause-words_bound
-sides-t-requires-clause-words_bound c =
+pub sides-t-requires-clause-places_fit : goal.sides-t-requires-clause-places_fit
+sides-t-requires-clause-places_fit c =
     let k = loop_inside c.requires.loop_is c.event_end-body.result c.event_end-body.ensures in
-    omega (arith, k.whole, k.some, k.p_is, ap length k.event_part, c.requires.words_bound)
+    omega (arith, k.whole, k.some, k.p_is, ap length k.event_part, c.requires.places_fit)
 
 pub returns-in-Refused : goal.returns-in-Refused
 returns-in-Refused c = λ d u e b is.

@@ -4,5 +4,5 @@ use Rattle.text.proofs.Puts.{line_wrote}
 use Rattle.text.proofs.Drafts.{and_then}
 use Rattle.text.proofs.printer.line.Goals as goal
 
-pub returns-clause-out_after : goal.returns-clause-out_after
-returns-clause-out_after c = line_wrote _ (omega arith) (and_then c.put_answer-end.ensures.put c.put_bytes-length.ensures) c.if-out-length.false c.put_bytes.ensures
+pub returns-clause-what_is_left : goal.returns-clause-what_is_left
+returns-clause-what_is_left c = line_wrote _ (omega arith) (and_then c.put_answer-end.ensures.put c.put_bytes-length.ensures) c.if-out-length.false c.put_bytes.ensures
