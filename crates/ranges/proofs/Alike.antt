@@ -1,4 +1,5 @@
 -- Retaining gives the smallest range around the set's values inside the range; the set's order and repeats do not matter.
+use Rattle.std.specs.Prelude.{Option}
 use mathlib.Core.Path.{◌≡◌, refl, sym, ◌∙◌}
 use mathlib.Core.Bool.{Bool, true, false, cond, false≢true}
 use mathlib.Core.List.{List, [], ◌∷◌}
@@ -6,24 +7,19 @@ use Prim.Native.Nat.{ℕ}
 use lib.Dec.{eqb}
 use borrow.Author.Tests.{eqb-true, eq-eqb}
 use Rattle.ranges.specs.declared.Range.{Range}
-use Rattle.ranges.specs.declared.Range.TheVariants.{Empty}
-use Rattle.ranges.specs.declared.Bounded.{Bounded}
 use Rattle.ranges.specs.Ranges as ranges
 use Rattle.ranges.specs.Removal.{Filled, Least, Greatest, Removed, nothing, over, gone, cut, endless}
 use Rattle.ranges.proofs.Lattice.{within_trans, within_antisym, join_above_left, join_above_right, join_least}
+use Rattle.ranges.proofs.Kept.{kept, retain_first}
 use Rattle.ranges.proofs.Removed.{removed, removed_only}
 
 -- ---- retain
 
--- what one value adds: its range where it is inside, else nothing
-abbrev pub kept : Range → ℕ → Range
-kept r x = cond (ranges.holds r x) (ranges.around x) Empty
-
 -- the range of each value inside lies within what is retained
 pub retain_above : (r : Range) (set : List ℕ) (x : ℕ) → ranges.has set x ≡ true → ranges.within (kept r x) (ranges.retain r set) ≡ true
-unfolding ranges.has ranges.retain
+unfolding ranges.has
 retain_above r [] x h = absurd (false≢true h)
-retain_above r (y ∷ set) x h = go (eqb x y) refl (retain_above r set x)
+retain_above r (y ∷ set) x h = rw (retain_first r y set) (go (eqb x y) refl (retain_above r set x))
   where
     go :
         (b : Bool) → eqb x y ≡ b → (ranges.has set x ≡ true → ranges.within (kept r x) (ranges.retain r set) ≡ true) →
@@ -36,7 +32,7 @@ pub retain_least : (r : Range) (set : List ℕ) (c : Range) → ((x : ℕ) → r
 unfolding ranges.has ranges.retain
 retain_least r [] c h = refl
 retain_least r (y ∷ set) c h =
-    join_least (kept r y) (ranges.retain r set) c (h y (rw (eq-eqb y y refl))) (retain_least r set c (λ x k. h x (go (eqb x y) x k)))
+    rw (retain_first r y set) (join_least (kept r y) (ranges.retain r set) c (h y (rw (eq-eqb y y refl))) (retain_least r set c (λ x k. h x (go (eqb x y) x k))))
   where
     go : (b : Bool) (x : ℕ) → ranges.has set x ≡ true → cond b true (ranges.has set x) ≡ true
     go true x k = refl
@@ -64,7 +60,7 @@ module _ (set other : List ℕ) (same : Alike set other) where
   greatest_alike : (end last : ℕ) → Greatest set end last → Greatest other end last
   greatest_alike end last p = record { below = p.below; out = sym (same last) ∙ p.out; passed = filled_alike _ _ p.passed }
 
-  removed_alike : (r : Range) (answer : Bounded) → Removed set r answer → Removed other r answer
+  removed_alike : (r : Range) (answer : Option Range) → Removed set r answer → Removed other r answer
   removed_alike r answer nothing = nothing
   removed_alike r answer (over h) = over (filled_alike _ _ h)
   removed_alike r answer (gone p t h) = gone (least_alike _ _ p) t (filled_alike _ _ h)

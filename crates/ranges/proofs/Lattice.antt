@@ -1,4 +1,5 @@
 -- Join, within, the same and widening: the order of ranges and what is above both of two.
+use Rattle.std.specs.Prelude.{Option, Some, None}
 use mathlib.Core.Path.{◌≡◌, refl, sym, ap, ap₂, ◌∙◌}
 use mathlib.Core.Bool.{Bool, true, false, cond, ◌&&◌, false≢true}
 use mathlib.Core.Logic.{◌↔◌}
@@ -6,8 +7,6 @@ use Prim.Native.Nat.{ℕ, ◌+◌, min, max, ◌≤◌, ◌<◌}
 use native.Mathlib.Omega.{arith}
 use lib.Dec.{leb, eqb}
 use borrow.Author.Tests.{leb-true, leb-false, eqb-true, le-leb, eq-eqb}
-use Rattle.ranges.specs.declared.End.{End}
-use Rattle.ranges.specs.declared.End.TheVariants.{At, Open}
 use Rattle.ranges.specs.declared.Range.{Range}
 use Rattle.ranges.specs.declared.Range.TheVariants.{Empty, Span}
 use Rattle.ranges.specs.Ranges as ranges
@@ -27,24 +26,24 @@ right_of false b h = absurd (false≢true h)
 
 -- what `within` says of two ranges that are not Empty, part by part
 
-within_parts : (s : ℕ) (e : End) (t : ℕ) (f : End) → ranges.within (Span s e) (Span t f) ≡ true → (t ≤ s) × (ranges.within_ends e f ≡ true)
+within_parts : (s : ℕ) (e : Option ℕ) (t : ℕ) (f : Option ℕ) → ranges.within (Span s e) (Span t f) ≡ true → (t ≤ s) × (ranges.within_ends e f ≡ true)
 within_parts s e t f h = (leb-true t s (left_of (leb t s) (ranges.within_ends e f) h), right_of (leb t s) (ranges.within_ends e f) h)
 
 -- ---- within is an order
 
-within_ends_self : (e : End) → ranges.within_ends e e ≡ true
-within_ends_self (At x) = le-leb x x (omega arith)
-within_ends_self Open = refl
+within_ends_self : (e : Option ℕ) → ranges.within_ends e e ≡ true
+within_ends_self (Some x) = le-leb x x (omega arith)
+within_ends_self None = refl
 
 pub within_self : (a : Range) → ranges.within a a ≡ true
 within_self Empty = refl
 within_self (Span s e) = both (le-leb s s (omega arith)) (within_ends_self e)
 
-within_ends_trans : (e f g : End) → ranges.within_ends e f ≡ true → ranges.within_ends f g ≡ true → ranges.within_ends e g ≡ true
-within_ends_trans e f Open h k = refl
-within_ends_trans (At x) (At y) (At z) h k = le-leb x z (omega (arith, leb-true x y h, leb-true y z k))
-within_ends_trans Open (At y) (At z) h k = h
-within_ends_trans e Open (At z) h k = absurd (false≢true k)
+within_ends_trans : (e f g : Option ℕ) → ranges.within_ends e f ≡ true → ranges.within_ends f g ≡ true → ranges.within_ends e g ≡ true
+within_ends_trans e f None h k = refl
+within_ends_trans (Some x) (Some y) (Some z) h k = le-leb x z (omega (arith, leb-true x y h, leb-true y z k))
+within_ends_trans None (Some y) (Some z) h k = h
+within_ends_trans e None (Some z) h k = absurd (false≢true k)
 
 pub within_trans : (a b c : Range) → ranges.within a b ≡ true → ranges.within b c ≡ true → ranges.within a c ≡ true
 within_trans Empty b c h k = refl
@@ -55,11 +54,11 @@ within_trans (Span s e) (Span t f) (Span u g) h k =
     let q = within_parts t f u g k in
     both (le-leb u s (omega (arith, p.0, q.0))) (within_ends_trans e f g p.1 q.1)
 
-within_ends_antisym : (e f : End) → ranges.within_ends e f ≡ true → ranges.within_ends f e ≡ true → e ≡ f
-within_ends_antisym (At x) (At y) h k = let q : x ≡ y = omega (arith, leb-true x y h, leb-true y x k) in ap At q
-within_ends_antisym (At x) Open h k = absurd (false≢true k)
-within_ends_antisym Open (At y) h k = absurd (false≢true h)
-within_ends_antisym Open Open h k = refl
+within_ends_antisym : (e f : Option ℕ) → ranges.within_ends e f ≡ true → ranges.within_ends f e ≡ true → e ≡ f
+within_ends_antisym (Some x) (Some y) h k = let q : x ≡ y = omega (arith, leb-true x y h, leb-true y x k) in ap Some q
+within_ends_antisym (Some x) None h k = absurd (false≢true k)
+within_ends_antisym None (Some y) h k = absurd (false≢true h)
+within_ends_antisym None None h k = refl
 
 pub within_antisym : (a b : Range) → ranges.within a b ≡ true → ranges.within b a ≡ true → a ≡ b
 within_antisym Empty Empty h k = refl
@@ -72,11 +71,11 @@ within_antisym (Span s e) (Span t f) h k =
 
 -- ---- the same is equality
 
-same_ends_eq : (e f : End) → ranges.same_ends e f ≡ true → e ≡ f
-same_ends_eq (At x) (At y) h = ap At (eqb-true x y h)
-same_ends_eq (At x) Open h = absurd (false≢true h)
-same_ends_eq Open (At y) h = absurd (false≢true h)
-same_ends_eq Open Open h = refl
+same_ends_eq : (e f : Option ℕ) → ranges.same_ends e f ≡ true → e ≡ f
+same_ends_eq (Some x) (Some y) h = ap Some (eqb-true x y h)
+same_ends_eq (Some x) None h = absurd (false≢true h)
+same_ends_eq None (Some y) h = absurd (false≢true h)
+same_ends_eq None None h = refl
 
 pub same_eq : (a b : Range) → ranges.same a b ≡ true → a ≡ b
 same_eq Empty Empty h = refl
@@ -85,9 +84,9 @@ same_eq (Span s e) Empty h = absurd (false≢true h)
 same_eq (Span s e) (Span t f) h =
     ap₂ Span (eqb-true s t (left_of (eqb s t) (ranges.same_ends e f) h)) (same_ends_eq e f (right_of (eqb s t) (ranges.same_ends e f) h))
 
-same_ends_self : (e : End) → ranges.same_ends e e ≡ true
-same_ends_self (At x) = eq-eqb x x refl
-same_ends_self Open = refl
+same_ends_self : (e : Option ℕ) → ranges.same_ends e e ≡ true
+same_ends_self (Some x) = eq-eqb x x refl
+same_ends_self None = refl
 
 pub same_self : (a : Range) → ranges.same a a ≡ true
 same_self Empty = refl
@@ -98,11 +97,11 @@ same_says a b = (λ h. same_eq a b h, λ h. rw h (same_self b))
 
 -- ---- join is the least above both
 
-join_ends_comm : (e f : End) → ranges.join_ends e f ≡ ranges.join_ends f e
-join_ends_comm (At x) (At y) = ap At (omega arith)
-join_ends_comm (At x) Open = refl
-join_ends_comm Open (At y) = refl
-join_ends_comm Open Open = refl
+join_ends_comm : (e f : Option ℕ) → ranges.join_ends e f ≡ ranges.join_ends f e
+join_ends_comm (Some x) (Some y) = ap Some (omega arith)
+join_ends_comm (Some x) None = refl
+join_ends_comm None (Some y) = refl
+join_ends_comm None None = refl
 
 pub join_comm : (a b : Range) → ranges.join a b ≡ ranges.join b a
 join_comm Empty Empty = refl
@@ -110,11 +109,11 @@ join_comm Empty (Span t f) = refl
 join_comm (Span s e) Empty = refl
 join_comm (Span s e) (Span t f) = ap₂ Span (omega arith) (join_ends_comm e f)
 
-join_ends_assoc : (e f g : End) → ranges.join_ends (ranges.join_ends e f) g ≡ ranges.join_ends e (ranges.join_ends f g)
-join_ends_assoc (At x) (At y) (At z) = ap At (omega arith)
-join_ends_assoc (At x) (At y) Open = refl
-join_ends_assoc (At x) Open g = refl
-join_ends_assoc Open f g = refl
+join_ends_assoc : (e f g : Option ℕ) → ranges.join_ends (ranges.join_ends e f) g ≡ ranges.join_ends e (ranges.join_ends f g)
+join_ends_assoc (Some x) (Some y) (Some z) = ap Some (omega arith)
+join_ends_assoc (Some x) (Some y) None = refl
+join_ends_assoc (Some x) None g = refl
+join_ends_assoc None f g = refl
 
 pub join_assoc : (a b c : Range) → ranges.join (ranges.join a b) c ≡ ranges.join a (ranges.join b c)
 join_assoc Empty b c = refl
@@ -122,9 +121,9 @@ join_assoc (Span s e) Empty c = refl
 join_assoc (Span s e) (Span t f) Empty = refl
 join_assoc (Span s e) (Span t f) (Span u g) = ap₂ Span (omega arith) (join_ends_assoc e f g)
 
-join_ends_idem : (e : End) → ranges.join_ends e e ≡ e
-join_ends_idem (At x) = ap At (omega arith)
-join_ends_idem Open = refl
+join_ends_idem : (e : Option ℕ) → ranges.join_ends e e ≡ e
+join_ends_idem (Some x) = ap Some (omega arith)
+join_ends_idem None = refl
 
 pub join_idem : (a : Range) → ranges.join a a ≡ a
 join_idem Empty = refl
@@ -135,10 +134,10 @@ pub join_empty : (a : Range) → ranges.join a Empty ≡ a
 join_empty Empty = refl
 join_empty (Span s e) = refl
 
-join_ends_above : (e f : End) → ranges.within_ends e (ranges.join_ends e f) ≡ true
-join_ends_above (At x) (At y) = le-leb x (max x y) (omega arith)
-join_ends_above (At x) Open = refl
-join_ends_above Open f = refl
+join_ends_above : (e f : Option ℕ) → ranges.within_ends e (ranges.join_ends e f) ≡ true
+join_ends_above (Some x) (Some y) = le-leb x (max x y) (omega arith)
+join_ends_above (Some x) None = refl
+join_ends_above None f = refl
 
 pub join_above_left : (a b : Range) → ranges.within a (ranges.join a b) ≡ true
 join_above_left Empty b = refl
@@ -148,11 +147,11 @@ join_above_left (Span s e) (Span t f) = both (le-leb (min s t) s (omega arith)) 
 pub join_above_right : (a b : Range) → ranges.within b (ranges.join a b) ≡ true
 join_above_right a b = rw (join_comm a b) (join_above_left b a)
 
-join_ends_least : (e f g : End) → ranges.within_ends e g ≡ true → ranges.within_ends f g ≡ true → ranges.within_ends (ranges.join_ends e f) g ≡ true
-join_ends_least e f Open h k = refl
-join_ends_least (At x) (At y) (At z) h k = le-leb (max x y) z (omega (arith, leb-true x z h, leb-true y z k))
-join_ends_least (At x) Open (At z) h k = k
-join_ends_least Open f (At z) h k = h
+join_ends_least : (e f g : Option ℕ) → ranges.within_ends e g ≡ true → ranges.within_ends f g ≡ true → ranges.within_ends (ranges.join_ends e f) g ≡ true
+join_ends_least e f None h k = refl
+join_ends_least (Some x) (Some y) (Some z) h k = le-leb (max x y) z (omega (arith, leb-true x z h, leb-true y z k))
+join_ends_least (Some x) None (Some z) h k = k
+join_ends_least None f (Some z) h k = h
 
 pub join_least : (a b c : Range) → ranges.within a c ≡ true → ranges.within b c ≡ true → ranges.within (ranges.join a b) c ≡ true
 join_least Empty b c h k = k
@@ -170,17 +169,17 @@ join_filled (Span s e) (Span t f) h = refl
 
 -- ---- widening is above both, and gives up a bound
 
-widen_ends_new : (e f : End) → ranges.within_ends f (ranges.widen_ends e f) ≡ true
+widen_ends_new : (e f : Option ℕ) → ranges.within_ends f (ranges.widen_ends e f) ≡ true
 widen_ends_new e f = go (ranges.within_ends f e) refl
   where
-    go : (b : Bool) → ranges.within_ends f e ≡ b → ranges.within_ends f (cond b e Open) ≡ true
+    go : (b : Bool) → ranges.within_ends f e ≡ b → ranges.within_ends f (cond b e None) ≡ true
     go true q = q
     go false q = refl
 
-widen_ends_old : (e f : End) → ranges.within_ends e (ranges.widen_ends e f) ≡ true
+widen_ends_old : (e f : Option ℕ) → ranges.within_ends e (ranges.widen_ends e f) ≡ true
 widen_ends_old e f = go (ranges.within_ends f e)
   where
-    go : (b : Bool) → ranges.within_ends e (cond b e Open) ≡ true
+    go : (b : Bool) → ranges.within_ends e (cond b e None) ≡ true
     go true = within_ends_self e
     go false = refl
 
@@ -208,9 +207,9 @@ widen_filled (Span s e) (Span t f) h = refl
 abbrev pub weight_start : ℕ → ℕ
 weight_start s = cond (eqb s 0) 0 1
 
-abbrev pub weight_end : End → ℕ
-weight_end (At x) = 1
-weight_end Open = 0
+abbrev pub weight_end : Option ℕ → ℕ
+weight_end (Some x) = 1
+weight_end None = 0
 
 abbrev pub weight : Range → ℕ
 weight Empty = 2
@@ -225,8 +224,8 @@ weight_start_le s = go (eqb s 0)
 
 pub weight_le : (r : Range) → weight r ≤ 2
 weight_le Empty = omega arith
-weight_le (Span s (At x)) = omega (arith, weight_start_le s)
-weight_le (Span s Open) = omega (arith, weight_start_le s)
+weight_le (Span s (Some x)) = omega (arith, weight_start_le s)
+weight_le (Span s None) = omega (arith, weight_start_le s)
 
 start_le : (s t : ℕ) → weight_start (cond (leb s t) s 0) ≤ weight_start s
 start_le s t = go (leb s t)
@@ -242,16 +241,16 @@ start_lt s t h = rw h (go (eqb s 0) refl)
     go true q = omega (arith, eqb-true s 0 q, leb-false s t h)
     go false q = rw q (omega arith)
 
-end_le : (e f : End) → weight_end (ranges.widen_ends e f) ≤ weight_end e
+end_le : (e f : Option ℕ) → weight_end (ranges.widen_ends e f) ≤ weight_end e
 end_le e f = go (ranges.within_ends f e)
   where
-    go : (b : Bool) → weight_end (cond b e Open) ≤ weight_end e
+    go : (b : Bool) → weight_end (cond b e None) ≤ weight_end e
     go true = omega arith
     go false = omega arith
 
-end_lt : (e f : End) → ranges.within_ends f e ≡ false → weight_end (ranges.widen_ends e f) < weight_end e
-end_lt (At x) f h = rw h (omega arith)
-end_lt Open f h = absurd (false≢true (sym h))
+end_lt : (e f : Option ℕ) → ranges.within_ends f e ≡ false → weight_end (ranges.widen_ends e f) < weight_end e
+end_lt (Some x) f h = rw h (omega arith)
+end_lt None f h = absurd (false≢true (sym h))
 
 pub widen_le : (a b : Range) → weight (ranges.widen a b) ≤ weight a
 widen_le Empty b = weight_le b

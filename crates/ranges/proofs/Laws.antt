@@ -16,6 +16,7 @@ pub use Rattle.ranges.proofs.Proper.{Proper, ProperBounded, join_proper, sum_pro
 -- removal in words, and which values it leaves
 pub use Rattle.ranges.proofs.Removed.{removed, removed_only, remove_over, remove_holds}
 -- retaining is the smallest range around the values inside; the order and the repeats of a set do not matter
-pub use Rattle.ranges.proofs.Alike.{kept, retain_above, retain_least, Alike, retain_alike, remove_alike}
+pub use Rattle.ranges.proofs.Kept.{kept}
+pub use Rattle.ranges.proofs.Alike.{retain_above, retain_least, Alike, retain_alike, remove_alike}
 -- two tests that are true
 pub use Rattle.ranges.proofs.Lattice.{both, left_of, right_of}

@@ -1,4 +1,5 @@
 -- `remove` is what specs/Removal says, for every range and every list of numbers, and that has one answer only.
+use Rattle.std.specs.Prelude.{Option, Some, None}
 use mathlib.Core.Path.{◌≡◌, refl, sym, ◌∙◌}
 use mathlib.Core.Bool.{Bool, true, false, cond, false≢true}
 use mathlib.Core.Logic.{◌↔◌}
@@ -8,12 +9,8 @@ use native.Mathlib.Omega.{arith}
 use lib.Dec.{leb, ltb, eqb}
 use lib.ListN.{length}
 use borrow.Author.Tests.{leb-true, leb-false, ltb-true, ltb-false, eqb-true, eqb-false, le-leb, lt-leb, lt-ltb, le-ltb}
-use Rattle.ranges.specs.declared.End.{End}
-use Rattle.ranges.specs.declared.End.TheVariants.{At, Open}
 use Rattle.ranges.specs.declared.Range.{Range}
 use Rattle.ranges.specs.declared.Range.TheVariants.{Empty, Span}
-use Rattle.ranges.specs.declared.Bounded.{Bounded}
-use Rattle.ranges.specs.declared.Bounded.TheVariants.{Is, Over}
 use Rattle.ranges.specs.Ranges as ranges
 use Rattle.ranges.specs.Removal.{Filled, Least, Greatest, Removed, nothing, over, gone, cut, endless}
 use Rattle.ranges.proofs.Holding.{In, in_of, of_in, HoldsBounded}
@@ -85,14 +82,6 @@ filled_front set low high h more x l u = go (eqb x low) refl
     go true q = rw (eqb-true x low q) h
     go false q = let d = eqb-false x low q in more x (omega arith) u
 
--- a stretch and the one that follows it
-pub filled_join : (set : List ℕ) (low middle high : ℕ) → Filled set low middle → Filled set middle high → Filled set low high
-filled_join set low middle high h k x l u = go (ltb x middle) refl
-  where
-    go : (b : Bool) → ltb x middle ≡ b → ranges.has set x ≡ true
-    go true q = h x l (ltb-true x middle q)
-    go false q = k x (ltb-false x middle q) u
-
 least_here : (set : List ℕ) (start : ℕ) → ranges.has set start ≡ false → Least set start start
 least_here set start h = record { above = omega arith; out = h; passed = λ x l u. absurd (omega arith) }
 
@@ -118,7 +107,7 @@ pub first_out_is : (set : List ℕ) (start : ℕ) → Least set start (ranges.fi
 first_out_is set start = first_out_least (length set) set start (count_le (leb start) set)
 
 -- it is at most as many steps up as the set has values
-first_out_near : (k : ℕ) (set : List ℕ) (start : ℕ) → ranges.first_out k set start ≤ start + k
+pub first_out_near : (k : ℕ) (set : List ℕ) (start : ℕ) → ranges.first_out k set start ≤ start + k
 unfolding ranges.first_out
 first_out_near zero set start = omega arith
 first_out_near (suc k) set start =
@@ -131,19 +120,6 @@ least_le set start first x p l h = go (leb first x) refl
     go : (b : Bool) → leb first x ≡ b → first ≤ x
     go true q = leb-true first x q
     go false q = absurd (clash set x (p.passed x l (leb-false first x q)) h)
-
--- what the set fills from the start on ends at the least that is not in it, or before
-filled_le : (set : List ℕ) (start first high : ℕ) → Least set start first → Filled set start high → high ≤ first
-filled_le set start first high p h = go (leb high first) refl
-  where
-    go : (b : Bool) → leb high first ≡ b → high ≤ first
-    go true q = leb-true high first q
-    go false q = absurd (clash set first (h first p.above (leb-false high first q)) p.out)
-
--- so it is no longer than the set has values
-pub filled_near : (set : List ℕ) (start high : ℕ) → Filled set start high → high ≤ start + length set
-filled_near set start high h =
-    omega (arith, filled_le set start (ranges.first_out (length set) set start) high (first_out_is set start) h, first_out_near (length set) set start)
 
 -- there is one least number only
 pub least_only : (set : List ℕ) (start m n : ℕ) → Least set start m → Least set start n → m ≡ n
@@ -230,13 +206,13 @@ stops_of set end last g = record { below = g.below; stop = λ q. absurd (clash s
 -- ---- the whole removal
 
 -- the end, once the start is cut up
-ended : (set : List ℕ) (start first : ℕ) (e : End) → Least set start first → first ≤ ranges.top → Removed set (Span start e) (Is (ranges.remove_end first e set))
+ended : (set : List ℕ) (start first : ℕ) (e : Option ℕ) → Least set start first → first ≤ ranges.top → Removed set (Span start e) (Some (ranges.remove_end first e set))
 unfolding ranges.remove_end
-ended set start first (At end) p t =
-    by_test (λ r. Removed set (Span start (At end)) (Is r)) (ltb end first) Empty (Span first (At (ranges.cut_end (length set) set end)))
+ended set start first (Some end) p t =
+    by_test (λ r. Removed set (Span start (Some end)) (Some r)) (ltb end first) Empty (Span first (Some (ranges.cut_end (length set) set end)))
     (λ q. let l = ltb-true end first q in gone p t (λ x h u. p.passed x h (omega arith)))
     (λ q. let g = greatest set end (ranges.cut_end (length set) set end) first (cut_end_is set end) (ltb-false end first q) p.out in cut p t g.0 g.1)
-ended set start first Open p t = endless p t
+ended set start first None p t = endless p t
 
 -- what `remove` answers is what removal is to answer
 pub removed : (set : List ℕ) (r : Range) → Removed set r (ranges.remove r set)
@@ -245,12 +221,12 @@ removed set Empty = nothing
 removed set (Span start e) =
     let p = first_out_is set start in
     let first = ranges.first_out (length set) set start in
-    by_test (Removed set (Span start e)) (leb first ranges.top) (Is (ranges.remove_end first e set)) Over
+    by_test (Removed set (Span start e)) (leb first ranges.top) (Some (ranges.remove_end first e set)) None
     (λ q. ended set start first e p (leb-true first ranges.top q))
     (λ q. let d = leb-false first ranges.top q in over (λ x h u. p.passed x h (omega arith)))
 
 -- and there is no other answer
-pub removed_only : (set : List ℕ) (r : Range) (answer : Bounded) → Removed set r answer → answer ≡ ranges.remove r set
+pub removed_only : (set : List ℕ) (r : Range) (answer : Option Range) → Removed set r answer → answer ≡ ranges.remove r set
 unfolding ranges.remove ranges.remove_end
 removed_only set r answer nothing = refl
 removed_only set r answer (over {start} {end} h) =
@@ -280,10 +256,10 @@ removed_only set r answer (endless {start} {first} p t) =
     rw (least_only set start (ranges.first_out (length set) set start) first (first_out_is set start) p, le-leb first ranges.top t)
 
 -- over exactly when the set has every number from the start through 4294967295
-pub remove_over : (set : List ℕ) (start : ℕ) (end : End) → (ranges.remove (Span start end) set ≡ Over) ↔ Filled set start (ranges.top + 1)
-remove_over set start end = (λ h. go start end (ranges.remove (Span start end) set) (removed set (Span start end)) h, λ h. sym (removed_only set (Span start end) Over (over h)))
+pub remove_over : (set : List ℕ) (start : ℕ) (end : Option ℕ) → (ranges.remove (Span start end) set ≡ None) ↔ Filled set start (ranges.top + 1)
+remove_over set start end = (λ h. go start end (ranges.remove (Span start end) set) (removed set (Span start end)) h, λ h. sym (removed_only set (Span start end) None (over h)))
   where
-    go : (start : ℕ) (end : End) (answer : Bounded) → Removed set (Span start end) answer → answer ≡ Over → Filled set start (ranges.top + 1)
+    go : (start : ℕ) (end : Option ℕ) (answer : Option Range) → Removed set (Span start end) answer → answer ≡ None → Filled set start (ranges.top + 1)
     go start end answer (over h) q = h
     go start end answer (gone p t h) q = let z : ◌≡◌ {A = ℕ} 0 1 = cc in absurd (omega arith)
     go start end answer (cut p t g n) q = let z : ◌≡◌ {A = ℕ} 0 1 = cc in absurd (omega arith)
@@ -293,10 +269,10 @@ remove_over set start end = (λ h. go start end (ranges.remove (Span start end) 
 pub remove_holds : (r : Range) (set : List ℕ) (x : ℕ) → ranges.holds r x ≡ true → ranges.has set x ≡ false → HoldsBounded (ranges.remove r set) x
 remove_holds r set x h out = go r (ranges.remove r set) (removed set r) (in_of r x h)
   where
-    go : (r : Range) (answer : Bounded) → Removed set r answer → In r x → HoldsBounded answer x
+    go : (r : Range) (answer : Option Range) → Removed set r answer → In r x → HoldsBounded answer x
     go r answer nothing i = absurd i
     go r answer (over p) i = tt
     go r answer (gone p t f) i = absurd (clash set x (f x i.0 (omega (arith, i.1))) out)
     go r answer (cut {start} {end} {first} {last} p t g n) i =
-        of_in (Span first (At last)) x (least_le set start first x p i.0 out, stops_ge set end last x (stops_of set end last g) i.1 (λ q. absurd (clash set x q out)))
-    go r answer (endless {start} {first} p t) i = of_in (Span first Open) x (least_le set start first x p i.0 out, tt)
+        of_in (Span first (Some last)) x (least_le set start first x p i.0 out, stops_ge set end last x (stops_of set end last g) i.1 (λ q. absurd (clash set x q out)))
+    go r answer (endless {start} {first} p t) i = of_in (Span first None) x (least_le set start first x p i.0 out, tt)

@@ -1,9 +1,5 @@
 -- Ranges of whole numbers and the operations of document 01 on them.
-use Rattle.std.specs.Prelude.{Bool, true, false, cond, ◌&&◌, List, [], ◌∷◌, ℕ, zero, suc, ◌+◌, ◌-◌, ◌*◌, min, max, leb, ltb, eqb, length}
-use Rattle.ranges.specs.declared.End.{End}
-use Rattle.ranges.specs.declared.End.TheVariants.{At, Open}
-use Rattle.ranges.specs.declared.Bounded.{Bounded}
-use Rattle.ranges.specs.declared.Bounded.TheVariants.{Is, Over}
+use Rattle.std.specs.Prelude.{Option, Some, None, Bool, true, false, cond, ◌&&◌, List, [], ◌∷◌, ℕ, zero, suc, ◌+◌, ◌-◌, ◌*◌, min, max, leb, ltb, eqb, length, fold, map, filter}
 use Rattle.ranges.specs.declared.Range.{Range}
 use Rattle.ranges.specs.declared.Range.TheVariants.{Empty, Span}
 
@@ -13,11 +9,11 @@ top = 4294967295
 
 -- [x,x]
 abbrev pub point : ℕ → Range
-point x = Span x (At x)
+point x = Span x (Some x)
 
 -- [0,–)
 abbrev pub naturals : Range
-naturals = Span 0 Open
+naturals = Span 0 None
 
 -- the range is Empty
 abbrev pub is_empty : Range → Bool
@@ -27,14 +23,14 @@ is_empty (Span start end) = false
 -- the start is over the end: what refusal 7 is about
 abbrev pub crossed : Range → Bool
 crossed Empty = false
-crossed (Span start (At end)) = ltb end start
-crossed (Span start Open) = false
+crossed (Span start (Some end)) = ltb end start
+crossed (Span start None) = false
 
 -- sum: ends add, and give none when over or when either is none
-abbrev pub sum_ends : End → End → End
-sum_ends (At x) (At y) = cond (leb (x + y) top) (At (x + y)) Open
-sum_ends (At x) Open = Open
-sum_ends Open end = Open
+abbrev pub sum_ends : Option ℕ → Option ℕ → Option ℕ
+sum_ends (Some x) (Some y) = cond (leb (x + y) top) (Some (x + y)) None
+sum_ends (Some x) None = None
+sum_ends None end = None
 
 -- sum: Empty with x gives x; starts add and stay at 4294967295 when over
 abbrev pub sum : Range → Range → Range
@@ -43,20 +39,20 @@ sum (Span start end) Empty = Span start end
 sum (Span start₁ end₁) (Span start₂ end₂) = Span (min (start₁ + start₂) top) (sum_ends end₁ end₂)
 
 -- product by c: the end times c, which may be over; none stays none, also for c = 0
-abbrev pub times_end : ℕ → End → ℕ → Bounded
-times_end start (At x) c = cond (leb (x * c) top) (Is (Span start (At (x * c)))) Over
-times_end start Open c = Is (Span start Open)
+abbrev pub times_end : ℕ → Option ℕ → ℕ → Option Range
+times_end start (Some x) c = cond (leb (x * c) top) (Some (Span start (Some (x * c)))) None
+times_end start None c = Some (Span start None)
 
 -- product by c: the start times c, which may be over, and the end
-abbrev pub times : Range → ℕ → Bounded
-times Empty c = Is Empty
-times (Span start end) c = cond (leb (start * c) top) (times_end (start * c) end c) Over
+abbrev pub times : Range → ℕ → Option Range
+times Empty c = Some Empty
+times (Span start end) c = cond (leb (start * c) top) (times_end (start * c) end c) None
 
 -- join: the higher end, none if either is none
-abbrev pub join_ends : End → End → End
-join_ends (At x) (At y) = At (max x y)
-join_ends (At x) Open = Open
-join_ends Open end = Open
+abbrev pub join_ends : Option ℕ → Option ℕ → Option ℕ
+join_ends (Some x) (Some y) = Some (max x y)
+join_ends (Some x) None = None
+join_ends None end = None
 
 -- join: the lower start and the higher end; Empty with x gives x
 abbrev pub join : Range → Range → Range
@@ -65,9 +61,9 @@ join (Span start end) Empty = Span start end
 join (Span start₁ end₁) (Span start₂ end₂) = Span (min start₁ start₂) (join_ends end₁ end₂)
 
 -- decrement: the end less c, never below 0
-abbrev pub less_end : End → ℕ → End
-less_end (At x) c = At (x - c)
-less_end Open c = Open
+abbrev pub less_end : Option ℕ → ℕ → Option ℕ
+less_end (Some x) c = Some (x - c)
+less_end None c = None
 
 -- decrement: both less c, never below 0
 abbrev pub less : Range → ℕ → Range
@@ -75,9 +71,9 @@ less Empty c = Empty
 less (Span start end) c = Span (start - c) (less_end end c)
 
 -- x does not pass the end
-abbrev pub holds_end : End → ℕ → Bool
-holds_end (At y) x = leb x y
-holds_end Open x = true
+abbrev pub holds_end : Option ℕ → ℕ → Bool
+holds_end (Some y) x = leb x y
+holds_end None x = true
 
 -- x is one of the range's values
 abbrev pub holds : Range → ℕ → Bool
@@ -86,12 +82,11 @@ holds (Span start end) x = leb start x && holds_end end x
 
 -- the smallest range that has x: [x,x] for a u32, and [4294967295,–) for a number over it, which no checked set has
 abbrev pub around : ℕ → Range
-around x = cond (leb x top) (point x) (Span top Open)
+around x = cond (leb x top) (point x) (Span top None)
 
 -- retain a set: the smallest and largest of its values inside the range, or Empty
 unfoldable pub retain : Range → List ℕ → Range
-retain range [] = Empty
-retain range (x ∷ set) = join (cond (holds range x) (around x) Empty) (retain range set)
+retain range set = fold join Empty (map around (filter (holds range) set))
 
 -- x is in the set
 unfoldable pub has : List ℕ → ℕ → Bool
@@ -109,20 +104,20 @@ cut_end zero set end = end
 cut_end (suc k) set end = let next = cut_end k set (end - 1) in cond (has set end) next end
 
 -- remove a set: the end cut down to the start that is left, or Empty; none stays none
-unfoldable pub remove_end : ℕ → End → List ℕ → Range
-remove_end start (At end) set = cond (ltb end start) Empty (Span start (At (cut_end (length set) set end)))
-remove_end start Open set = Span start Open
+unfoldable pub remove_end : ℕ → Option ℕ → List ℕ → Range
+remove_end start (Some end) set = cond (ltb end start) Empty (Span start (Some (cut_end (length set) set end)))
+remove_end start None set = Span start None
 
--- remove a set: the range cut at both ends until neither is in the set; over if no number from the start through 4294967295 is left
-unfoldable pub remove : Range → List ℕ → Bounded
-remove Empty set = Is Empty
-remove (Span start end) set = let first = first_out (length set) set start in cond (leb first top) (Is (remove_end first end set)) Over
+-- remove a set: the range cut at both ends until neither is in the set, or None if no number from the start through 4294967295 is left
+unfoldable pub remove : Range → List ℕ → Option Range
+remove Empty set = Some Empty
+remove (Span start end) set = let first = first_out (length set) set start in cond (leb first top) (Some (remove_end first end set)) None
 
 -- within: the end lies within the other; within none every end does
-abbrev pub within_ends : End → End → Bool
-within_ends end Open = true
-within_ends (At x) (At y) = leb x y
-within_ends Open (At y) = false
+abbrev pub within_ends : Option ℕ → Option ℕ → Bool
+within_ends end None = true
+within_ends (Some x) (Some y) = leb x y
+within_ends None (Some y) = false
 
 -- within: every value of the first is one of the second
 abbrev pub within : Range → Range → Bool
@@ -131,11 +126,11 @@ within (Span start end) Empty = false
 within (Span start₁ end₁) (Span start₂ end₂) = leb start₂ start₁ && within_ends end₁ end₂
 
 -- the same: both none, or the same number
-abbrev pub same_ends : End → End → Bool
-same_ends (At x) (At y) = eqb x y
-same_ends (At x) Open = false
-same_ends Open (At y) = false
-same_ends Open Open = true
+abbrev pub same_ends : Option ℕ → Option ℕ → Bool
+same_ends (Some x) (Some y) = eqb x y
+same_ends (Some x) None = false
+same_ends None (Some y) = false
+same_ends None None = true
 
 -- the same: both Empty, or the same start and end
 abbrev pub same : Range → Range → Bool
@@ -145,8 +140,8 @@ same (Span start end) Empty = false
 same (Span start₁ end₁) (Span start₂ end₂) = eqb start₁ start₂ && same_ends end₁ end₂
 
 -- widening: an end that does not hold the new end becomes none
-abbrev pub widen_ends : End → End → End
-widen_ends old new = cond (within_ends new old) old Open
+abbrev pub widen_ends : Option ℕ → Option ℕ → Option ℕ
+widen_ends old new = cond (within_ends new old) old None
 
 -- widening: a start above the new start becomes 0; Empty, which no state has, with x gives x
 abbrev pub widen : Range → Range → Range

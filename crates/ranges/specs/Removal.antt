@@ -1,9 +1,5 @@
 -- Removal in document 01's words: the least number from the start on that is not in the set, and the greatest from the end down.
-use Rattle.std.specs.Prelude.{◌≡◌, true, false, List, ℕ, ◌+◌, ◌≤◌, ◌<◌}
-use Rattle.ranges.specs.declared.End.{End}
-use Rattle.ranges.specs.declared.End.TheVariants.{At, Open}
-use Rattle.ranges.specs.declared.Bounded.{Bounded}
-use Rattle.ranges.specs.declared.Bounded.TheVariants.{Is, Over}
+use Rattle.std.specs.Prelude.{Option, Some, None, ◌≡◌, true, false, List, ℕ, ◌+◌, ◌≤◌, ◌<◌}
 use Rattle.ranges.specs.declared.Range.{Range}
 use Rattle.ranges.specs.declared.Range.TheVariants.{Empty, Span}
 use Rattle.ranges.specs.Ranges.{top, has}
@@ -25,16 +21,16 @@ pub record Greatest (set : List ℕ) (end last : ℕ) : Type 0 where
   pub passed : Filled set (last + 1) (end + 1)
 
 -- what removing a set from a range answers
-pub data Removed (set : List ℕ) : Range → Bounded → Type 0 where
+pub data Removed (set : List ℕ) : Range → Option Range → Type 0 where
   -- nothing is removed from Empty
-  nothing : Removed set Empty (Is Empty)
+  nothing : Removed set Empty (Some Empty)
   -- the set has every number from the start through 4294967295, wherever the range ends
-  over : {start : ℕ} {end : End} → Filled set start (top + 1) → Removed set (Span start end) Over
+  over : {start : ℕ} {end : Option ℕ} → Filled set start (top + 1) → Removed set (Span start end) None
   -- the set has every number of the range, but not every one through 4294967295
-  gone : {start end first : ℕ} → Least set start first → first ≤ top → Filled set start (end + 1) → Removed set (Span start (At end)) (Is Empty)
+  gone : {start end first : ℕ} → Least set start first → first ≤ top → Filled set start (end + 1) → Removed set (Span start (Some end)) (Some Empty)
   -- both ends are cut
   cut :
       {start end first last : ℕ} → Least set start first → first ≤ top → Greatest set end last → first ≤ last →
-      Removed set (Span start (At end)) (Is (Span first (At last)))
+      Removed set (Span start (Some end)) (Some (Span first (Some last)))
   -- where there is no end, the start is cut
-  endless : {start first : ℕ} → Least set start first → first ≤ top → Removed set (Span start Open) (Is (Span first Open))
+  endless : {start first : ℕ} → Least set start first → first ≤ top → Removed set (Span start None) (Some (Span first None))

@@ -1,61 +1,18 @@
 // Ranges and sets of values: a set is a part of a program's words, as it stands there, in any order and with repeats.
-ghost use Rattle.std.specs.Prelude.{◌≡◌, ◌+◌, ◌-◌, ◌<◌, ◌^◌, length};
-ghost use Rattle.ranges.specs.Ranges.{holds_end, holds, around, retain, first_out, cut_end, remove_end, remove};
+ghost use Rattle.std.specs.Prelude.{◌≡◌, ◌+◌, ◌<◌, ◌^◌, length};
+ghost use Rattle.ranges.specs.Ranges.{holds, around, retain, first_out, cut_end, remove_end, remove};
 ghost use Rattle.ranges.specs.Walks.{raised, lowered};
 
-use crate::{Bounded, End, Range, TOP, join, point};
-
-// Whether x does not pass the end.
-fn holds_end(end: End, x: u64) -> bool
-    ensures { result ≡ holds_end end x }
-{
-    match end {
-        End::At(y) => x <= y as u64,
-        End::Open => true,
-    }
-}
-
-// Whether x is one of the range's values.
-pub fn holds(range: Range, x: u64) -> bool
-    ensures { result ≡ holds range x }
-{
-    match range {
-        Range::Empty => false,
-        Range::Span(start, end) => {
-            if start as u64 <= x {
-                holds_end(end, x)
-            } else {
-                false
-            }
-        }
-    }
-}
+use crate::Range;
 
 // The smallest range that has x.
 fn around(x: u64) -> Range
     ensures { result ≡ around x }
 {
-    if x <= TOP {
-        point(x as u32)
-    } else {
-        Range::Span(TOP as u32, End::Open)
+    match u32::try_from(x) {
+        Ok(x) => Range::point(x),
+        Err(_) => Range::Span(u32::MAX, None),
     }
-}
-
-// The smallest and largest of the values inside the range, or Empty.
-pub fn retain(range: Range, values: &[u64]) -> Range
-    ensures { result ≡ retain range values.now }
-{
-    let mut kept = Range::Empty;
-    let mut i = 0;
-    while i < values.len() {
-        let x = values[i];
-        if holds(range, x) {
-            kept = join(kept, around(x));
-        }
-        i += 1;
-    }
-    kept
 }
 
 // One walk from the first value on: x steps up past each value that it equals. The requires keeps the steps within a u64.
@@ -64,39 +21,29 @@ fn raised(values: &[u64], x: u64) -> u64
     ensures { result ≡ raised values.now x }
 {
     let mut up = x;
-    let mut i = 0;
-    while i < values.len() {
-        if values[i] == up {
+    for &value in values {
+        if value == up {
             up += 1;
         }
-        i += 1;
     }
     up
-}
-
-// The number below x, and 0 below 0.
-fn before(x: u64) -> u64
-    ensures { result ≡ x - 1 }
-{
-    if 0 < x { x - 1 } else { 0 }
 }
 
 // One walk from the last value back: x steps down past each value that it equals.
 fn lowered(values: &[u64], x: u64) -> u64
     ensures { result ≡ lowered values.now x }
 {
-    let mut down = x;
-    let mut i = values.len();
-    while 0 < i {
-        i -= 1;
-        if values[i] == down {
-            down = before(down);
+    values.iter().rev().fold(x, |down, &value| {
+        if value == down {
+            down.saturating_sub(1)
+        } else {
+            down
         }
-    }
-    down
+    })
 }
 
 // The start cut up until it is not in the set: sorted values take two walks, since a walk goes on while the next value follows.
+#[tactic(auto, using(crate::proofs::Walked::up))]
 fn first_out(values: &[u64], start: u32) -> u64
     ensures { result ≡ first_out (length values.now) values.now start }
 {
@@ -110,7 +57,8 @@ fn first_out(values: &[u64], start: u32) -> u64
     }
 }
 
-// The end cut down until it is not in the set.
+// The end cut down until it is not in the set. Apart from `first_out`: that one ends by going up, this one by going down.
+#[tactic(auto, using(crate::proofs::Walked::down))]
 fn cut_end(values: &[u64], end: u32) -> u32
     ensures { result ≡ cut_end (length values.now) values.now end }
 {
@@ -126,34 +74,49 @@ fn cut_end(values: &[u64], end: u32) -> u32
 
 // What is left from a start on that is not in the set.
 #[tactic(auto, unfolding(crate::specs::Ranges::remove_end))]
-fn remove_end(start: u32, end: End, values: &[u64]) -> Range
+fn remove_end(start: u32, end: Option<u32>, values: &[u64]) -> Range
     ensures { result ≡ remove_end start end values.now }
 {
     match end {
-        End::At(x) => {
-            if x < start {
-                return Range::Empty;
-            }
-            Range::Span(start, End::At(cut_end(values, x)))
-        }
-        End::Open => Range::Span(start, End::Open),
+        Some(x) if x < start => Range::Empty,
+        Some(x) => Range::Span(start, Some(cut_end(values, x))),
+        None => Range::Span(start, None),
     }
 }
 
-// The range cut at both ends until neither is in the set, or Empty; over if the start would pass 4294967295.
-#[tactic(auto, unfolding(crate::specs::Ranges::remove))]
-pub fn remove(range: Range, values: &[u64]) -> Bounded
-    ensures { result ≡ remove range values.now }
-{
-    match range {
-        Range::Empty => Bounded::Is(Range::Empty),
-        Range::Span(start, end) => {
-            let first = first_out(values, start);
-            if first <= TOP {
-                Bounded::Is(remove_end(first as u32, end, values))
-            } else {
-                Bounded::Over
-            }
+impl Range {
+    // Whether x is one of the range's values.
+    pub fn holds(self, x: u64) -> bool
+        ensures { result ≡ holds self x }
+    {
+        match self {
+            Range::Empty => false,
+            Range::Span(start, end) => start as u64 <= x && end.is_none_or(|y| x <= y as u64),
         }
+    }
+
+    // The smallest and largest of the values inside the range, or Empty.
+    #[tactic(auto, unfolding(crate::specs::Ranges::retain))]
+    pub fn retain(self, values: &[u64]) -> Range
+        ensures { result ≡ retain self values.now }
+    {
+        values
+            .iter()
+            .copied()
+            .filter(|&value| self.holds(value))
+            .map(around)
+            .fold(Range::Empty, Range::join)
+    }
+
+    // The range cut at both ends until neither is in the set, or Empty; none if the start would pass 4294967295.
+    #[tactic(auto, unfolding(crate::specs::Ranges::remove))]
+    pub fn remove(self, values: &[u64]) -> Option<Range>
+        ensures { result ≡ remove self values.now }
+    {
+        let Range::Span(start, end) = self else {
+            return Some(Range::Empty);
+        };
+        let first = u32::try_from(first_out(values, start)).ok()?;
+        Some(remove_end(first, end, values))
     }
 }

@@ -1,10 +1,10 @@
--- Every number from the end down to where it stands, which is left out, is in the set.
-use Rattle.std.proofs.Common.{◌+◌, ◌≤◌}
-use Rattle.ranges.specs.Removal.{Filled}
+-- The number never passes the answer.
+use Rattle.std.proofs.Common.{◌≤◌, length}
+use Rattle.ranges.specs.Ranges as ranges
 use Rattle.ranges.proofs.sets.cut_end.Given as goal
 
 abbrev pub invariant-loop-last : goal.invariant-loop-last
-invariant-loop-last l = record { below : l.last ≤ l.end; passed : Filled l.values (l.last + 1) (l.end + 1) }
+invariant-loop-last l = record { below : l.last ≤ l.end; above : ranges.cut_end (length l.values) l.values l.end ≤ l.last }
 
 abbrev pub decreases-loop-last : goal.decreases-loop-last
 decreases-loop-last l = l.last

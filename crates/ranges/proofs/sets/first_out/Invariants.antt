@@ -1,10 +1,10 @@
--- Every number from the start to where it stands is in the set.
-use Rattle.std.proofs.Common.{◌+◌, ◌-◌, ◌≤◌, length}
-use Rattle.ranges.specs.Removal.{Filled}
+-- The number never passes the answer.
+use Rattle.std.proofs.Common.{◌-◌, ◌≤◌, length}
+use Rattle.ranges.specs.Ranges as ranges
 use Rattle.ranges.proofs.sets.first_out.Given as goal
 
 abbrev pub invariant-loop-first : goal.invariant-loop-first
-invariant-loop-first l = record { above : l.start ≤ l.first; passed : Filled l.values l.start l.first }
+invariant-loop-first l = record { above : l.start ≤ l.first; below : l.first ≤ ranges.first_out (length l.values) l.values l.start }
 
 abbrev pub decreases-loop-first : goal.decreases-loop-first
-decreases-loop-first l = l.start + length l.values - l.first
+decreases-loop-first l = ranges.first_out (length l.values) l.values l.start - l.first

@@ -1,14 +1,7 @@
--- The walk over the values ahead, from where the number stands, gives the answer.
-use Rattle.std.proofs.Common.{◌≡◌, ◌+◌, ◌-◌, ◌≤◌, length, drop}
-use Rattle.ranges.specs.Walks as walks
+-- The number stands where the walk over the values passed takes it, at most as many steps up as those.
+use Rattle.std.proofs.Common.{◌≡◌, ◌+◌, ◌≤◌, take}
+use Rattle.ranges.specs.Walks.{raised}
 use Rattle.ranges.proofs.sets.raised.Given as goal
 
-abbrev pub invariant-loop-i : goal.invariant-loop-i
-invariant-loop-i l = record {
-  in_bounds : l.i ≤ length l.values;
-  near : l.up ≤ l.x + l.i;
-  ahead : walks.raised l.values l.x ≡ walks.raised (drop l.i l.values) l.up;
-}
-
-abbrev pub decreases-loop-i : goal.decreases-loop-i
-decreases-loop-i l = length l.values - l.i
+abbrev pub invariant-loop-value : goal.invariant-loop-value
+invariant-loop-value l = record { near : l.up ≤ l.x + l.value-index; passed : l.up ≡ raised (take l.value-index l.values) l.x }
