@@ -10,11 +10,12 @@ use Rattle.ranges.specs.declared.Range.{Range}
 use Rattle.ranges.specs.Ranges as ranges
 use Rattle.ranges.proofs.Laws as laws
 use Rattle.states.specs.declared.State.{State}
+use Rattle.states.specs.declared.State.TheVariants as state
 use Rattle.states.specs.declared.Cell.{Cell}
 use Rattle.states.specs.States as states
 use Rattle.states.specs.States.{Fit}
 use Rattle.states.proofs.Cells.{cell_at, at, each_at, every_at, every_make}
-use Rattle.states.proofs.Fits.{state, alike, fit_join}
+use Rattle.states.proofs.Fits.{alike, fit_join}
 use Rattle.states.proofs.Proper.{Proper}
 
 -- a state that equals another has it within
@@ -32,33 +33,24 @@ every_turned (suc k) (c ∷ cs) (d ∷ ds) h = laws.both
     (every_turned k cs ds (laws.right_of (states.same_cells c d) (states.every states.same_cells k cs ds) h))
 
 pub same_within : (n : ℕ) (s t : State) → states.same n s t ≡ true → states.within n t s ≡ true
-same_within n s t = go s.live t.live s.cells t.cells
-  where
-    go : (b c : Bool) (cs ds : List Cell) → states.same n (state b cs) (state c ds) ≡ true → states.within n (state c ds) (state b cs) ≡ true
-    go false false cs ds h = refl
-    go false true cs ds h = absurd (false≢true h)
-    go true false cs ds h = absurd (false≢true h)
-    go true true cs ds h = every_turned n cs ds h
+same_within n state.Empty state.Empty h = refl
+same_within n state.Empty (state.Live ds) h = absurd (false≢true h)
+same_within n (state.Live cs) state.Empty h = absurd (false≢true h)
+same_within n (state.Live cs) (state.Live ds) h = every_turned n cs ds h
 
 module _ (n : ℕ) (small : n ≤ 64) where
   -- ---- same is equality
 
   pub same_self : (s : State) → states.same n s s ≡ true
-  same_self s = go s.live s.cells
-    where
-      go : (b : Bool) (cs : List Cell) → states.same n (state b cs) (state b cs) ≡ true
-      go false cs = refl
-      go true cs = every_make states.same_cells n cs cs (λ v h. laws.same_self (at cs v))
+  same_self state.Empty = refl
+  same_self (state.Live cs) = every_make states.same_cells n cs cs (λ v h. laws.same_self (at cs v))
 
   pub same_eq : (s t : State) → Fit n s → Fit n t → states.same n s t ≡ true → s ≡ t
-  same_eq s t f g = go s.live t.live s.cells t.cells f g
-    where
-      go : (b c : Bool) (cs ds : List Cell) → Fit n (state b cs) → Fit n (state c ds) → states.same n (state b cs) (state c ds) ≡ true → state b cs ≡ state c ds
-      go false false cs ds f g h = alike n (state false cs) (state false ds) f g refl (λ l. absurd (false≢true l))
-      go false true cs ds f g h = absurd (false≢true h)
-      go true false cs ds f g h = absurd (false≢true h)
-      go true true cs ds f g h = alike n (states.live cs) (states.live ds) f g refl
-          (λ l v k. laws.same_eq (at cs v) (at ds v) (every_at states.same_cells n v cs ds h k (omega (arith, f.long)) (omega (arith, g.long))))
+  same_eq state.Empty state.Empty f g h = refl
+  same_eq state.Empty (state.Live ds) f g h = absurd (false≢true h)
+  same_eq (state.Live cs) state.Empty f g h = absurd (false≢true h)
+  same_eq (state.Live cs) (state.Live ds) f g h = alike n (states.live cs) (states.live ds) f g refl
+      (λ l v k. laws.same_eq (at cs v) (at ds v) (every_at states.same_cells n v cs ds h k (omega (arith, f.long)) (omega (arith, g.long))))
 
   pub same_says : (s t : State) → Fit n s → Fit n t → (states.same n s t ≡ true) ↔ (s ≡ t)
   same_says s t f g = (same_eq s t f g, λ e. subst (λ (u : State). states.same n s u ≡ true) e (same_self s))
@@ -67,34 +59,32 @@ module _ (n : ℕ) (small : n ≤ 64) where
 
   -- the state s is empty, or neither is and each range of s is within that of t
   abbrev pub Inside : State → State → Type 0
-  Inside s t = s.live ≡ true → (t.live ≡ true) × ((v : ℕ) → v < n → ranges.within (states.get s v) (states.get t v) ≡ true)
+  Inside s t = states.is_live s ≡ true → (states.is_live t ≡ true) × ((v : ℕ) → v < n → ranges.within (states.get s v) (states.get t v) ≡ true)
 
   pub within_says : (s t : State) → Fit n s → Fit n t → (states.within n s t ≡ true) ↔ Inside s t
-  within_says s t f g = go s.live t.live s.cells t.cells f.long g.long
-    where
-      go : (b c : Bool) (cs ds : List Cell) → length cs ≡ 64 → length ds ≡ 64 → (states.within n (state b cs) (state c ds) ≡ true) ↔ Inside (state b cs) (state c ds)
-      go false c cs ds f g = (λ h l. absurd (false≢true l), λ h. refl)
-      go true false cs ds f g = (λ h. absurd (false≢true h), λ h. absurd (false≢true (h refl).0))
-      go true true cs ds f g = (λ h l. (refl, λ v k. every_at states.within_cells n v cs ds h k (omega arith) (omega arith)), λ h. every_make states.within_cells n cs ds (h refl).1)
+  within_says state.Empty t f g = (λ h l. absurd (false≢true l), λ h. refl)
+  within_says (state.Live cs) state.Empty f g = (λ h. absurd (false≢true h), λ h. absurd (false≢true (h refl).0))
+  within_says (state.Live cs) (state.Live ds) f g = (
+    λ h l. (refl, λ v k. every_at states.within_cells n v cs ds h k (omega (arith, f.long)) (omega (arith, g.long))),
+    λ h. every_make states.within_cells n cs ds (h refl).1,
+  )
 
   -- the same in values, where each start is at most its end
   pub within_holds : (s t : State) → Fit n s → Fit n t → Proper n s →
       (states.within n s t ≡ true)
-      ↔ (s.live ≡ true → (t.live ≡ true) × ((v : ℕ) → v < n → (x : ℕ) → ranges.holds (states.get s v) x ≡ true → ranges.holds (states.get t v) x ≡ true))
+      ↔ (states.is_live s ≡ true → (states.is_live t ≡ true) × ((v : ℕ) → v < n → (x : ℕ) → ranges.holds (states.get s v) x ≡ true → ranges.holds (states.get t v) x ≡ true))
   within_holds s t f g proper = (
     λ h l. let p = (within_says s t f g).0 h l in (p.0, λ v k. (laws.within_says (states.get s v) (states.get t v) (proper v k)).0 (p.1 v k)),
     λ h. (within_says s t f g).1 (λ l. let p = h l in (p.0, λ v k. (laws.within_says (states.get s v) (states.get t v) (proper v k)).1 (p.1 v k))),
   )
 
   pub within_self : (s : State) → states.within n s s ≡ true
-  within_self s = go s.live s.cells
-    where
-      go : (b : Bool) (cs : List Cell) → states.within n (state b cs) (state b cs) ≡ true
-      go false cs = refl
-      go true cs = every_make states.within_cells n cs cs (λ v h. laws.within_self (at cs v))
+  within_self state.Empty = refl
+  within_self (state.Live cs) = every_make states.within_cells n cs cs (λ v h. laws.within_self (at cs v))
 
-  pub within_dead : (s t : State) → s.live ≡ false → states.within n s t ≡ true
-  within_dead s t h = rw h refl
+  pub within_dead : (s t : State) → states.is_live s ≡ false → states.within n s t ≡ true
+  within_dead state.Empty t h = refl
+  within_dead (state.Live cs) t h = absurd (false≢true (sym h))
 
   module _ (s t u : State) (f : Fit n s) (g : Fit n t) (h : Fit n u) where
     pub within_trans : states.within n s t ≡ true → states.within n t u ≡ true → states.within n s u ≡ true
@@ -112,7 +102,7 @@ module _ (n : ℕ) (small : n ≤ 64) where
   within_antisym s t f g a b =
       let p : Inside s t = (within_says s t f g).0 a in
       let q : Inside t s = (within_says t s g f).0 b in
-      alike n s t f g (both_ways s.live t.live (λ l. (p l).0) (λ l. (q l).0))
+      alike n s t f g (both_ways (states.is_live s) (states.is_live t) (λ l. (p l).0) (λ l. (q l).0))
       (λ l v k. laws.within_antisym (states.get s v) (states.get t v) ((p l).1 v k) ((q (p l).0).1 v k))
 
   -- ---- join and widening go variable by variable, and are above both
@@ -124,22 +114,16 @@ module _ (n : ℕ) (small : n ≤ 64) where
 
     -- above both, where it is so of one variable
     above_left : ((a b : Cell) → states.within_cells a (f a b) ≡ true) → (s t : State) → Fit n s → Fit n t → states.within n s (states.together f n s t) ≡ true
-    above_left up s t p q = go s.live t.live s.cells t.cells p.long q.long
-      where
-        go : (b c : Bool) (cs ds : List Cell) → length cs ≡ 64 → length ds ≡ 64 → states.within n (state b cs) (states.together f n (state b cs) (state c ds)) ≡ true
-        go false c cs ds p q = refl
-        go true false cs ds p q = within_self (states.live cs)
-        go true true cs ds p q = every_make states.within_cells n cs (states.each f n cs ds)
-            (λ v k. subst (λ (c : Cell). states.within_cells (cell_at cs v) c ≡ true) (sym (each_at f n v cs ds k (omega arith) (omega arith))) (up (cell_at cs v) (cell_at ds v)))
+    above_left up state.Empty t p q = refl
+    above_left up (state.Live cs) state.Empty p q = within_self (states.live cs)
+    above_left up (state.Live cs) (state.Live ds) p q = every_make states.within_cells n cs (states.each f n cs ds)
+        (λ v k. subst (λ (c : Cell). states.within_cells (cell_at cs v) c ≡ true) (sym (each_at f n v cs ds k (omega (arith, p.long)) (omega (arith, q.long)))) (up (cell_at cs v) (cell_at ds v)))
 
     above_right : ((a b : Cell) → states.within_cells b (f a b) ≡ true) → (s t : State) → Fit n s → Fit n t → states.within n t (states.together f n s t) ≡ true
-    above_right up s t p q = go s.live t.live s.cells t.cells p.long q.long
-      where
-        go : (b c : Bool) (cs ds : List Cell) → length cs ≡ 64 → length ds ≡ 64 → states.within n (state c ds) (states.together f n (state b cs) (state c ds)) ≡ true
-        go false c cs ds p q = within_self (state c ds)
-        go true false cs ds p q = refl
-        go true true cs ds p q = every_make states.within_cells n ds (states.each f n cs ds)
-            (λ v k. subst (λ (c : Cell). states.within_cells (cell_at ds v) c ≡ true) (sym (each_at f n v cs ds k (omega arith) (omega arith))) (up (cell_at cs v) (cell_at ds v)))
+    above_right up state.Empty t p q = within_self t
+    above_right up (state.Live cs) state.Empty p q = refl
+    above_right up (state.Live cs) (state.Live ds) p q = every_make states.within_cells n ds (states.each f n cs ds)
+        (λ v k. subst (λ (c : Cell). states.within_cells (cell_at ds v) c ≡ true) (sym (each_at f n v cs ds k (omega (arith, p.long)) (omega (arith, q.long)))) (up (cell_at cs v) (cell_at ds v)))
 
   pub join_above_left : (s t : State) → Fit n s → Fit n t → states.within n s (states.join n s t) ≡ true
   join_above_left = above_left states.join_cells (λ a b. laws.join_above_left a.range b.range)
@@ -156,19 +140,16 @@ module _ (n : ℕ) (small : n ≤ 64) where
   -- ---- join is the least state above both: commutative, associative, idempotent
 
   pub join_least : (s t u : State) → Fit n s → Fit n t → Fit n u → states.within n s u ≡ true → states.within n t u ≡ true → states.within n (states.join n s t) u ≡ true
-  join_least s t u f g h = go s.live t.live s.cells t.cells f g
-    where
-      go : (b c : Bool) (cs ds : List Cell) → Fit n (state b cs) → Fit n (state c ds) → states.within n (state b cs) u ≡ true → states.within n (state c ds) u ≡ true →
-          states.within n (states.join n (state b cs) (state c ds)) u ≡ true
-      go false c cs ds f g a b = b
-      go true false cs ds f g a b = a
-      go true true cs ds f g a b = (within_says (states.join n (states.live cs) (states.live ds)) u (fit_join n small (states.live cs) (states.live ds) f g) h).1 (λ l.
-          let p = (within_says (states.live cs) u f h).0 a refl in
-          let q = (within_says (states.live ds) u g h).0 b refl in (
-            p.0,
-            λ v k. subst (λ (r : Range). ranges.within r (states.get u v) ≡ true) (sym (made states.join_cells cs ds f.long g.long v k))
-                (laws.join_least (at cs v) (at ds v) (states.get u v) (p.1 v k) (q.1 v k)),
-          ))
+  join_least state.Empty t u f g h a b = b
+  join_least (state.Live cs) state.Empty u f g h a b = a
+  join_least (state.Live cs) (state.Live ds) u f g h a b =
+      (within_says (states.join n (states.live cs) (states.live ds)) u (fit_join n small (states.live cs) (states.live ds) f g) h).1 (λ l.
+      let p = (within_says (states.live cs) u f h).0 a refl in
+      let q = (within_says (states.live ds) u g h).0 b refl in (
+        p.0,
+        λ v k. subst (λ (r : Range). ranges.within r (states.get u v) ≡ true) (sym (made states.join_cells cs ds f.long g.long v k))
+            (laws.join_least (at cs v) (at ds v) (states.get u v) (p.1 v k) (q.1 v k)),
+      ))
 
   pub join_comm : (s t : State) → Fit n s → Fit n t → states.join n s t ≡ states.join n t s
   join_comm s t f g = within_antisym (states.join n s t) (states.join n t s) (fit_join n small s t f g) (fit_join n small t s g f)

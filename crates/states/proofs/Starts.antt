@@ -1,15 +1,20 @@
--- The caller's starting ranges: what `started` answers, case by case, found by going over them one at a time.
+-- The caller's starting ranges: what `started` answers, by the lowest start over its end and whether one range is Empty, and case by case.
 use mathlib.Core.Path.{◌≡◌, refl, sym, ap, ◌∙◌, subst}
-use mathlib.Core.Bool.{Bool, true, false, cond, false≢true}
-use mathlib.Core.List.{List}
+use mathlib.Core.Bool.{Bool, true, false, cond, ◌||◌, false≢true}
+use mathlib.Core.List.{List, [], ◌∷◌, ◌++◌}
 use Prim.Native.Nat.{ℕ, zero, suc, ◌+◌, ◌-◌, ◌≤◌, ◌<◌}
 use native.Mathlib.Omega.{arith}
-use native.Mathlib.Numerals.{add-one}
-use borrow.Author.Count.{below_more}
 use borrow.Author.Tests.{ltb-true, ltb-false, lt-ltb, le-ltb}
 use lib.Dec.{ltb}
-use lib.ListN.{length, get_or, take, drop, set, replicate, length-append, length-replicate, get_or-append}
-use lib.Seq.{take-suc, drop-cons, append_snoc, set_at, length-take-le, get_or-take, get_or-append-add}
+use lib.ListN.{length, get_or, take, drop, replicate, length-append, length-replicate, get_or-append}
+use lib.Seq.{length-take-le, get_or-take, get_or-append-add}
+use Rattle.std.specs.Prelude.{Option, Some, None}
+use Rattle.std.specs.List.{position, position_or_len, position_from, list_any}
+use Rattle.std.proofs.lemmas.List.{drop-replicate}
+use Rattle.std.proofs.lemmas.List.Quantifiers.{position-Some}
+use Rattle.std.proofs.lemmas.List.Sums.{fails_before_first}
+use Rattle.std.proofs.lemmas.List.Folds.{Any-from_list_any, list_any_at}
+use Rattle.std.proofs.lemmas.Iterator.Adapters.{position_from-zero}
 use Rattle.ranges.specs.declared.Range.{Range}
 use Rattle.ranges.specs.Ranges as ranges
 use Rattle.states.specs.declared.State.{State}
@@ -18,18 +23,64 @@ use Rattle.states.specs.States as states
 use Rattle.states.specs.States.{Fit}
 use Rattle.states.specs.Answers.{Answer, Gives, Refuses}
 use Rattle.states.specs.Starts as starts
-use Rattle.states.proofs.Cells.{at}
+use Rattle.states.proofs.Cells.{cell_at, at, there}
 use Rattle.states.proofs.Fits.{blank_at, fit_empty}
 use Rattle.states.proofs.Proper.{Proper, empty_proper}
 use Rattle.states.proofs.Sure.{Sure, given, refused}
 
--- one more of the caller's cells taken over
-pub first_more : (i : ℕ) (cs : List Cell) (a : Cell) → i < 64 → i < length cs → set (starts.first_cells i cs) i (get_or cs i a) ≡ starts.first_cells (i + 1) cs
-first_more i cs a small h =
-    let left : 64 - i ≡ suc (64 - (i + 1)) = omega arith in
-    rw left (set_at (take i cs) states.blank (replicate (64 - (i + 1)) states.blank) (get_or cs i a) i (length-take-le i cs (omega arith))
-    ∙ sym (append_snoc (take i cs) (get_or cs i a) (replicate (64 - (i + 1)) states.blank))
-    ∙ rw (add-one i, take-suc cs i a h))
+-- ---- the answer, by the lowest start over its end and whether one range is Empty
+
+abbrev pub crossed : Cell → Bool
+crossed c = ranges.crossed c.range
+
+abbrev pub is_empty : Cell → Bool
+is_empty c = ranges.is_empty c.range
+
+abbrev pub answer : Option ℕ → Bool → State → Answer State
+answer (Some v) one_is s = Refuses 7 v
+answer None one_is s = Gives (cond one_is states.empty s)
+
+answer_more : (o : Option ℕ) (b c : Bool) (s : State) → answer o c (cond b states.empty s) ≡ answer o (b || c) s
+answer_more (Some v) b c s = refl
+answer_more None true true s = refl
+answer_more None true false s = refl
+answer_more None false c s = refl
+
+starting_is : (k v : ℕ) (cs : List Cell) (s : State) → starts.starting k v cs s ≡ answer (position_from crossed v (take k cs)) (list_any is_empty (take k cs)) s
+unfolding starts.starting
+starting_is zero v cs s = refl
+starting_is (suc k) v [] s = refl
+starting_is (suc k) v (c ∷ cs) s = go (crossed c) (starting_is k (v + 1) cs (cond (is_empty c) states.empty s))
+  where
+    rest : Answer State
+    rest = starts.starting k (v + 1) cs (cond (is_empty c) states.empty s)
+
+    lowest_after : Option ℕ
+    lowest_after = position_from crossed (v + 1) (take k cs)
+
+    empty_after : Bool
+    empty_after = list_any is_empty (take k cs)
+
+    go : (b : Bool) → rest ≡ answer lowest_after empty_after (cond (is_empty c) states.empty s) →
+        elim b [ true ↦ Refuses 7 v | false ↦ rest ] ≡ answer (cond b (Some v) lowest_after) (is_empty c || empty_after) s
+    go true more = refl
+    go false more = more ∙ answer_more lowest_after (is_empty c) empty_after s
+
+module _ (n : ℕ) (cs : List Cell) where
+  pub started_over : 64 < n → starts.started n cs ≡ Refuses 4 0
+  unfolding starts.started
+  started_over h = rw (starts.started, lt-ltb 64 n h) refl
+
+  pub started_is : n ≤ 64 → starts.started n cs ≡ answer (position crossed (take n cs)) (list_any is_empty (take n cs)) (states.live (starts.first_cells n cs))
+  unfolding starts.started
+  started_is h = rw (starts.started, le-ltb 64 n h) (starting_is n 0 cs (states.live (starts.first_cells n cs)) ∙
+      ap (λ (o : Option ℕ). answer o (list_any is_empty (take n cs)) (states.live (starts.first_cells n cs))) (sym (position_from-zero crossed (take n cs))))
+
+-- the caller's ranges taken over, with [0,0] after them
+pub taken_over : (n : ℕ) (cs taken : List Cell) (a : Cell) → taken ≡ take n cs → a ≡ states.blank → taken ++ drop n (replicate 64 a) ≡ starts.first_cells n cs
+taken_over n cs taken a e b = rw (e, b, drop-replicate n 64 states.blank)
+
+-- ---- the same case by case
 
 -- what `started` answers: over 64 variables; the lowest start over its end; one Empty; none of these
 pub data Said (n : ℕ) (cs : List Cell) : Answer State → Type 0 where
@@ -38,116 +89,72 @@ pub data Said (n : ℕ) (cs : List Cell) : Answer State → Type 0 where
   one_empty : (v : ℕ) → n ≤ 64 → ((w : ℕ) → w < n → ranges.crossed (at cs w) ≡ false) → v < n → ranges.is_empty (at cs v) ≡ true → Said n cs (Gives states.empty)
   as_given : n ≤ 64 → ((w : ℕ) → w < n → ranges.crossed (at cs w) ≡ false) → ((w : ℕ) → w < n → ranges.is_empty (at cs w) ≡ false) → Said n cs (Gives (states.live (starts.first_cells n cs)))
 
-module _ (n : ℕ) (cs : List Cell) where
-  abbrev first : State
-  first = states.live (starts.first_cells n cs)
+-- where no element passes, none does at an index
+none_passes : {X : Type 0} (p : X → Bool) (xs : List X) (d : X) → position p xs ≡ None → (k : ℕ) → k < length xs → p (get_or xs k d) ≡ false
+none_passes p xs d q k h = fails_before_first p xs k d (go (ltb (position_or_len p xs) (length xs)) refl)
+  where
+    go : (b : Bool) → ltb (position_or_len p xs) (length xs) ≡ b → k < position_or_len p xs
+    go true e = let some : position p xs ≡ Some (position_or_len p xs) = rw e refl in let never : ⊥ = cc in absurd never
+    go false e = let past : length xs ≤ position_or_len p xs = ltb-false (position_or_len p xs) (length xs) e in omega arith
 
-  pub started_over : 64 < n → starts.started n cs ≡ Refuses 4 0
-  unfolding starts.started
-  started_over h = rw (lt-ltb 64 n h, starts.started)
+module _ (n : ℕ) (cs : List Cell) (small : n ≤ 64) (enough : n ≤ length cs) where
+  front : length (take n cs) ≡ n
+  front = length-take-le n cs enough
 
-  -- what is left of `started` once i ranges are seen, live where none of them is Empty
-  abbrev pub Seen : ℕ → Bool → Type 0
-  Seen i live = starts.started n cs ≡ starts.starting (n - i) i (drop i cs) (cond live first states.empty)
+  seen : (w : ℕ) → w < n → get_or (take n cs) w states.blank ≡ get_or cs w states.blank
+  seen w h = get_or-take n cs w states.blank h
 
-  pub none_seen : n ≤ 64 → Seen 0 true
-  unfolding starts.started
-  none_seen h = let all : n - 0 ≡ n = omega arith in rw (le-ltb 64 n h, starts.started, all)
+  none_crossed : position crossed (take n cs) ≡ None → (w : ℕ) → w < n → ranges.crossed (at cs w) ≡ false
+  none_crossed q w h = rw (seen w h) at (none_passes crossed (take n cs) states.blank q w (omega (arith, front)))
 
-  pub all_seen : (i : ℕ) (live b : Bool) → i ≡ n → live ≡ b → Seen i live → starts.started n cs ≡ Gives (cond b (states.live (starts.first_cells i cs)) states.empty)
-  unfolding starts.starting
-  all_seen i live b e q so_far = let none : n - i ≡ 0 = omega arith in so_far ∙ rw (none, q, e)
-
-  -- the next range, where its start is over its end, and where it is not
-  module _ (i : ℕ) (live : Bool) (a : Cell) (low : i < n) (there : i < length cs) (so_far : Seen i live) where
-    pub crossed_seen : ranges.crossed (get_or cs i a).range ≡ true → starts.started n cs ≡ Refuses 7 i
-    unfolding starts.starting
-    crossed_seen q = let left : n - i ≡ suc (n - (i + 1)) = omega arith in so_far ∙ rw (left, drop-cons cs i a there, q, starts.starting)
-
-    pub one_seen : ranges.crossed (get_or cs i a).range ≡ false → (b : Bool) → ranges.is_empty (get_or cs i a).range ≡ b → Seen (i + 1) (cond b false live)
-    unfolding starts.starting
-    one_seen q b e = let left : n - i ≡ suc (n - (i + 1)) = omega arith in
-        so_far ∙ rw (left, drop-cons cs i a there, q, starts.starting) (rw (add-one, e) (ap (starts.starting (n - suc i) (suc i) (drop (suc i) cs)) (stopped b)))
-      where
-        stopped : (b : Bool) → cond b states.empty (cond live first states.empty) ≡ cond (cond b false live) first states.empty
-        stopped true = refl
-        stopped false = refl
-
-  -- of the first i ranges none has its start over its end, and one is Empty just where it is not live
-  record Upto (i : ℕ) (live : Bool) : Type 0 where
-    seen : Seen i live
-    proper : (w : ℕ) → w < i → ranges.crossed (at cs w) ≡ false
-    filled : live ≡ true → (w : ℕ) → w < i → ranges.is_empty (at cs w) ≡ false
-    hollow : live ≡ false → (v : ℕ) × (v < i) × (ranges.is_empty (at cs v) ≡ true)
-
-  module _ (small : n ≤ 64) (enough : n ≤ length cs) where
-    upto_more : (i : ℕ) (live b : Bool) → i < n → Upto i live → ranges.crossed (at cs i) ≡ false → ranges.is_empty (at cs i) ≡ b → Upto (i + 1) (cond b false live)
-    upto_more i live b low U q e = record {
-      seen = one_seen i live states.blank low (omega arith) U.seen q b e;
-      proper = below_more _ _ U.proper q;
-      filled = filled_more b live e U.filled;
-      hollow = hollow_more b live e U.hollow;
-    }
-      where
-        filled_more : (b live : Bool) → ranges.is_empty (at cs i) ≡ b → (live ≡ true → (w : ℕ) → w < i → ranges.is_empty (at cs w) ≡ false) →
-            cond b false live ≡ true → (w : ℕ) → w < i + 1 → ranges.is_empty (at cs w) ≡ false
-        filled_more true live e f l = absurd (false≢true l)
-        filled_more false live e f l = below_more _ _ (f l) e
-
-        hollow_more : (b live : Bool) → ranges.is_empty (at cs i) ≡ b → (live ≡ false → (v : ℕ) × (v < i) × (ranges.is_empty (at cs v) ≡ true)) →
-            cond b false live ≡ false → (v : ℕ) × (v < i + 1) × (ranges.is_empty (at cs v) ≡ true)
-        hollow_more true live e f l = (i, omega arith, e)
-        hollow_more false live e f l = let x = f l in (x.0, omega (arith, x.1), x.2)
-
-    said_all : (live : Bool) → Upto n live → Said n cs (starts.started n cs)
-    said_all true U = subst (Said n cs) (sym (all_seen n true true refl refl U.seen)) (as_given small U.proper (U.filled refl))
-    said_all false U = let x = U.hollow refl in subst (Said n cs) (sym (all_seen n false false refl refl U.seen)) (one_empty x.0 small U.proper x.1 x.2)
-
-    said_next : (i : ℕ) (live b : Bool) → i < n → Upto i live → ranges.crossed (at cs i) ≡ b → (Upto (i + 1) (cond (ranges.is_empty (at cs i)) false live) → Said n cs (starts.started n cs)) →
-        Said n cs (starts.started n cs)
-    said_next i live true low U q more = subst (Said n cs) (sym (crossed_seen i live states.blank low (omega arith) U.seen q)) (lowest i small low q U.proper)
-    said_next i live false low U q more = more (upto_more i live (ranges.is_empty (at cs i)) low U q refl)
-
-    said_from : (k i : ℕ) (live : Bool) → n ≡ i + k → Upto i live → Said n cs (starts.started n cs)
-    said_from zero i live e U = said_all live (subst (λ (j : ℕ). Upto j live) (omega arith) U)
-    said_from (suc k) i live e U = said_next i live (ranges.crossed (at cs i)) (omega arith) U refl (said_from k (i + 1) (cond (ranges.is_empty (at cs i)) false live) (omega arith))
-
-  pub started_says : length cs ≡ 64 → Said n cs (starts.started n cs)
-  started_says long = go (ltb 64 n) refl
+  none_empty : list_any is_empty (take n cs) ≡ false → (w : ℕ) → w < n → ranges.is_empty (at cs w) ≡ false
+  none_empty e w h = go (ranges.is_empty (at cs w)) refl
     where
-      go : (b : Bool) → ltb 64 n ≡ b → Said n cs (starts.started n cs)
-      go true q = subst (Said n cs) (sym (started_over (ltb-true 64 n q))) (too_many (ltb-true 64 n q))
-      go false q = let small : n ≤ 64 = ltb-false 64 n q in said_from small (omega arith) n 0 true (omega arith) (record {
-        seen = none_seen small;
-        proper = λ w k. absurd (omega arith);
-        filled = λ _ w k. absurd (omega arith);
-        hollow = λ l. absurd (false≢true (sym l));
-      })
+      go : (b : Bool) → ranges.is_empty (at cs w) ≡ b → ranges.is_empty (at cs w) ≡ false
+      go true q = absurd (false≢true (sym e ∙ list_any_at is_empty (take n cs) w states.blank (omega (arith, front)) (rw (seen w h) q)))
+      go false q = q
+
+  said : (o : Option ℕ) (b : Bool) → position crossed (take n cs) ≡ o → list_any is_empty (take n cs) ≡ b → Said n cs (answer o b (states.live (starts.first_cells n cs)))
+  said (Some v) b q e =
+      let p = position-Some crossed (take n cs) v states.blank q in
+      let low : v < n = omega (arith, front, p.0) in
+      lowest v small low (rw (seen v low) at p.1) (λ w k. rw (seen w (omega arith)) at (p.2 w k))
+  said None true q e =
+      let p = Any-from_list_any is_empty (take n cs) e in
+      let low : p.0 < n = omega (arith, front, p.2) in
+      let here : is_empty (cell_at cs p.0) ≡ true = ap is_empty (sym (there cs p.0 p.1 (omega (arith, low))) ∙ sym (get_or-take n cs p.0 p.1 low) ∙ p.3) ∙ p.4 in
+      one_empty p.0 small (none_crossed q) low here
+  said None false q e = as_given small (none_crossed q) (none_empty e)
+
+pub started_says : (n : ℕ) (cs : List Cell) → length cs ≡ 64 → Said n cs (starts.started n cs)
+started_says n cs long = go (ltb 64 n) refl
+  where
+    go : (b : Bool) → ltb 64 n ≡ b → Said n cs (starts.started n cs)
+    go true q = subst (Said n cs) (sym (started_over n cs (ltb-true 64 n q))) (too_many (ltb-true 64 n q))
+    go false q =
+        let small : n ≤ 64 = ltb-false 64 n q in
+        subst (Said n cs) (sym (started_is n cs small)) (said n cs small (omega arith) (position crossed (take n cs)) (list_any is_empty (take n cs)) refl refl)
 
 -- ---- what it gives is a state of n variables
 
 module _ (n : ℕ) (small : n ≤ 64) (cs : List Cell) (enough : n ≤ length cs) where
-  front : length (take n cs) ≡ n
-  front = length-take-le n cs enough
-
   first_long : length (starts.first_cells n cs) ≡ 64
-  first_long = rw (length-append, length-replicate, front) (omega arith)
+  first_long = rw (length-append, length-replicate, length-take-le n cs enough) (omega arith)
 
   -- the caller's ranges, and [0,0] after them
   pub first_at : (v : ℕ) → v < n → at (starts.first_cells n cs) v ≡ at cs v
   first_at v h = ap (λ (c : Cell). c.range)
-      (get_or-append (take n cs) (replicate (64 - n) states.blank) states.blank v (omega (arith, front)) ∙ get_or-take n cs v states.blank h)
+      (get_or-append (take n cs) (replicate (64 - n) states.blank) states.blank v (omega (arith, length-take-le n cs enough)) ∙ get_or-take n cs v states.blank h)
 
   first_rest : (v : ℕ) → n ≤ v → at (starts.first_cells n cs) v ≡ ranges.point 0
   first_rest v h =
-      let past : v ≡ length (take n cs) + (v - n) = omega (arith, front) in
+      let past : v ≡ length (take n cs) + (v - n) = omega (arith, length-take-le n cs enough) in
       ap (λ (c : Cell). c.range) (ap (λ (i : ℕ). get_or (starts.first_cells n cs) i states.blank) past ∙ get_or-append-add (take n cs) (replicate (64 - n) states.blank) (v - n) states.blank)
       ∙ blank_at (64 - n) (v - n)
 
   pub first_fit : ((w : ℕ) → w < n → ranges.is_empty (at cs w) ≡ false) → Fit n (states.live (starts.first_cells n cs))
   first_fit filled = record {
     long = first_long;
-    bare = λ l. absurd (false≢true (sym l));
     full = λ _ v h. subst (λ (r : Range). ranges.is_empty r ≡ false) (sym (first_at v h)) (filled v h);
     rest = first_rest;
   }

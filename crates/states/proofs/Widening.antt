@@ -8,11 +8,11 @@ use lib.ListN.{length}
 use Rattle.ranges.specs.Ranges as ranges
 use Rattle.ranges.proofs.Laws as laws
 use Rattle.states.specs.declared.State.{State}
+use Rattle.states.specs.declared.State.TheVariants as state
 use Rattle.states.specs.declared.Cell.{Cell}
 use Rattle.states.specs.States as states
 use Rattle.states.specs.States.{Fit}
 use Rattle.states.proofs.Cells.{at}
-use Rattle.states.proofs.Fits.{state}
 
 -- how many starts and ends the first n cells have left to give up
 unfoldable left : ℕ → List Cell → ℕ
@@ -48,19 +48,15 @@ widen_left_lt (suc n) (c ∷ cs) (d ∷ ds) a full h = go (ranges.within d.range
 module _ (n : ℕ) (small : n ≤ 64) where
   -- of a state
   pub left_of : State → ℕ
-  left_of s = left n s.cells
+  left_of s = left n (states.cells s)
 
   pub left_bound : (s : State) → left_of s ≤ n + n
   unfolding left_of
-  left_bound s = left_le n s.cells
+  left_bound s = left_le n (states.cells s)
 
   -- a pass that does not stop leaves less
-  pub widen_falls : (s t : State) → Fit n s → s.live ≡ true → states.within n t s ≡ false → left_of (states.widen n s t) < left_of s
+  pub widen_falls : (s t : State) → Fit n s → states.is_live s ≡ true → states.within n t s ≡ false → left_of (states.widen n s t) < left_of s
   unfolding left_of
-  widen_falls s t f = go s.live t.live s.cells t.cells f
-    where
-      go : (b c : Bool) (cs ds : List Cell) → Fit n (state b cs) → b ≡ true → states.within n (state c ds) (state b cs) ≡ false →
-          left n (states.widen n (state b cs) (state c ds)).cells < left n cs
-      go false c cs ds f l h = absurd (false≢true l)
-      go true false cs ds f l h = absurd (false≢true (sym h))
-      go true true cs ds f l h = widen_left_lt n cs ds (omega (arith, f.long)) (f.full refl) h
+  widen_falls state.Empty t f l h = absurd (false≢true l)
+  widen_falls (state.Live cs) state.Empty f l h = absurd (false≢true (sym h))
+  widen_falls (state.Live cs) (state.Live ds) f l h = widen_left_lt n cs ds (omega (arith, f.long)) (f.full refl) h
