@@ -1,4 +1,5 @@
 -- A draw takes just the numbers of its range.
+use Rattle.std.specs.Prelude.{Some}
 use mathlib.Core.Path.{◌≡◌, refl}
 use mathlib.Core.Bool.{Bool, true, false, cond}
 use mathlib.Core.Logic.{◌↔◌}
@@ -6,7 +7,6 @@ use Prim.Native.Nat.{ℕ, ◌-◌, ◌≤◌, ◌<◌}
 use native.Mathlib.Omega.{arith}
 use lib.Dec.{ltb}
 use borrow.Author.Tests.{ltb-true, ltb-false}
-use Rattle.ranges.specs.declared.End.TheVariants.{At}
 use Rattle.ranges.specs.declared.Range.TheVariants.{Empty, Span}
 use Rattle.ranges.proofs.Laws as laws
 use Rattle.paper.specs.Tree.{Draw, Dirac, Bernoulli, BernoulliVarProb, BinomialVarTrials, Binomial, Categorical, NegBinomialVarSuccesses, NegBinomial, Geometric, Poisson, PoissonVarRate, Uniform}
@@ -17,7 +17,7 @@ use Rattle.paper.specs.Runs.{Takes, ◌∈◌}
 below_in : (start end x : ℕ) → ((start ≤ x) × (x < end)) ↔ laws.In (rules.below start end) x
 below_in start end x = go (ltb start end) refl
   where
-    go : (b : Bool) → ltb start end ≡ b → ((start ≤ x) × (x < end)) ↔ laws.In (cond b (Span start (At (end - 1))) Empty) x
+    go : (b : Bool) → ltb start end ≡ b → ((start ≤ x) × (x < end)) ↔ laws.In (cond b (Span start (Some (end - 1))) Empty) x
     go true q = let h = ltb-true start end q in (λ p. omega arith, λ p. omega arith)
     go false q = let h = ltb-false start end q in (λ p. omega arith, λ p. absurd p)
 

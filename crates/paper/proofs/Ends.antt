@@ -1,4 +1,5 @@
 -- How the rules end: in a state of n variables, each range with its start at most at its end, or refused by 8, 9 or 10 at one of their words.
+use Rattle.std.specs.Prelude.{Option, Some, None}
 use mathlib.Core.Path.{◌≡◌, refl, ap, subst}
 use mathlib.Core.Bool.{Bool, true, false, cond}
 use mathlib.Core.List.{List, [], ◌∷◌}
@@ -7,11 +8,8 @@ use native.Mathlib.Omega.{arith}
 use lib.Dec.{ltb, eqb}
 use lib.ListN.{length}
 use borrow.Author.Tests.{ltb-true, ltb-false, le-ltb}
-use Rattle.ranges.specs.declared.End.TheVariants.{At, Open}
 use Rattle.ranges.specs.declared.Range.{Range}
 use Rattle.ranges.specs.declared.Range.TheVariants.{Empty, Span}
-use Rattle.ranges.specs.declared.Bounded.{Bounded}
-use Rattle.ranges.specs.declared.Bounded.TheVariants.{Is, Over}
 use Rattle.ranges.specs.Ranges as ranges
 use Rattle.ranges.proofs.Laws as laws
 use Rattle.states.specs.declared.State.{State}
@@ -91,7 +89,7 @@ point_proper x = le-ltb x x (omega arith)
 below_proper : (a b : ℕ) → laws.Proper (rules.below a b)
 below_proper a b = go (ltb a b) refl
   where
-    go : (c : Bool) → ltb a b ≡ c → laws.Proper (cond c (Span a (At (b - 1))) Empty)
+    go : (c : Bool) → ltb a b ≡ c → laws.Proper (cond c (Span a (Some (b - 1))) Empty)
     go true q = le-ltb (b - 1) a (omega (arith, ltb-true a b q))
     go false q = refl
 
@@ -185,25 +183,25 @@ module _ (n : ℕ) (small : n ≤ 64) where
     values_ends : (rest : State → Answer State) → ((s : State) → Begun n s → Ends (Among first end) (Begun n) (rest s)) → (at : ℕ) → first ≤ at → at < end → (v : ℕ) (s : State) → v < n → Begun n s → (r : Range) →
         Ends (Among first end) (Begun n) (rules.values n body rest at v s r)
     values_ends rest h at from before v s lt b Empty = ends_by _ (among (omega arith) (omega arith) (omega arith) (omega arith))
-    values_ends rest h at from before v s lt b (Span start Open) = ends_by _ (among (omega arith) (omega arith) (omega arith) (omega arith))
-    values_ends rest h at from before v s lt b (Span start (At end)) = ends_elim (ltb 4096 (end - start + 1)) (ends_by _ (among (omega arith) (omega arith) (omega arith) (omega arith))) (enumerated_ends rest h v s lt b (end - start + 1) start states.empty empty_begun)
+    values_ends rest h at from before v s lt b (Span start None) = ends_by _ (among (omega arith) (omega arith) (omega arith) (omega arith))
+    values_ends rest h at from before v s lt b (Span start (Some end)) = ends_elim (ltb 4096 (end - start + 1)) (ends_by _ (among (omega arith) (omega arith) (omega arith) (omega arith))) (enumerated_ends rest h v s lt b (end - start + 1) start states.empty empty_begun)
 
     normalized_ends : (vs : List ℕ) (at : ℕ) (s : State) → first ≤ at → at + length vs ≤ end → EachBelow n vs → Begun n s → Ends (Among first end) (Begun n) (rules.normalized n body at vs s)
     unfolding rules.normalized
     normalized_ends [] at s from before lt b = body_ends s b
     normalized_ends (v ∷ vs) at s from before lt b =
-        ends_elim s.live (values_ends (rules.normalized n body (at + 1) vs) (λ t. normalized_ends vs (at + 1) t (omega arith) (omega arith) lt.1) at from (omega arith) v s lt.0 b (states.get s v))
+        ends_elim (states.is_live s) (values_ends (rules.normalized n body (at + 1) vs) (λ t. normalized_ends vs (at + 1) t (omega arith) (omega arith) lt.1) at from (omega arith) v s lt.0 b (states.get s v))
         (ends_by _ (among (omega arith) (omega arith) (omega arith) (omega arith)))
 
 -- ---- events and statements
 
 module _ (g : Setting) (small : g.n ≤ 64) where
-  cut_ends : (at : ℕ) {end : ℕ} → at < end → (s : State) (v : ℕ) (xs : List ℕ) (q : Bounded) → v < g.n → Begun g.n s → laws.ProperBounded q → Ends (Among at end) (Parted g.n) (rules.cut at s v xs q)
-  cut_ends at inside s v xs (Is r) lt b p = gives (record {
+  cut_ends : (at : ℕ) {end : ℕ} → at < end → (s : State) (v : ℕ) (xs : List ℕ) (q : Option Range) → v < g.n → Begun g.n s → laws.ProperBounded q → Ends (Among at end) (Parted g.n) (rules.cut at s v xs q)
+  cut_ends at inside s v xs (Some r) lt b p = gives (record {
     yes = put_begun g.n small s v (ranges.retain (states.get s v) xs) lt b (laws.retain_proper (states.get s v) xs);
     no = put_begun g.n small s v r lt b p;
   })
-  cut_ends at inside s v xs Over lt b p = ends_if s.live (ends_by _ (among (omega arith) (omega arith) (omega arith) (omega arith))) (gives (record { yes = b; no = b }))
+  cut_ends at inside s v xs None lt b p = ends_if (states.is_live s) (ends_by _ (among (omega arith) (omega arith) (omega arith) (omega arith))) (gives (record { yes = b; no = b }))
 
   mutual
     unfolding rules.event rules.events code.event
@@ -232,11 +230,11 @@ module _ (g : Setting) (small : g.n ≤ 64) where
   scaled_proper s Nought lt b = refl
   scaled_proper s (Times f w) lt b = laws.times_proper (states.get s w) f (b.proper w lt)
 
-  assigned_ends : (at : ℕ) {end : ℕ} → at < end → (s : State) (v : ℕ) (add : Bool) (k : ℕ) (q : Bounded) → v < g.n → Begun g.n s → laws.ProperBounded q → Ends (Among at end) (Begun g.n) (rules.assigned at s v add k q)
-  assigned_ends at inside s v add k (Is r) lt b p =
+  assigned_ends : (at : ℕ) {end : ℕ} → at < end → (s : State) (v : ℕ) (add : Bool) (k : ℕ) (q : Option Range) → v < g.n → Begun g.n s → laws.ProperBounded q → Ends (Among at end) (Begun g.n) (rules.assigned at s v add k q)
+  assigned_ends at inside s v add k (Some r) lt b p =
       gives (put_begun g.n small s v (ranges.sum (ranges.sum (rules.old s v add) r) (ranges.point k)) lt b
       (laws.sum_proper (ranges.sum (rules.old s v add) r) (ranges.point k) (laws.sum_proper (rules.old s v add) r (old_proper s v add lt b) p) (point_proper k)))
-  assigned_ends at inside s v add k Over lt b p = ends_if s.live (ends_by _ (among (omega arith) (omega arith) (omega arith) (omega arith))) (gives b)
+  assigned_ends at inside s v add k None lt b p = ends_if (states.is_live s) (ends_by _ (among (omega arith) (omega arith) (omega arith) (omega arith))) (gives b)
 
   -- a loop, by its event and its body
   module _ {R : ℕ → ℕ → Type 0} (event : State → Answer Sides) (body : State → Answer State) (event_fine : (s : State) → Begun g.n s → Ends R (Parted g.n) (event s)) (body_fine : (s : State) → Begun g.n s → Ends R (Begun g.n) (body s)) where

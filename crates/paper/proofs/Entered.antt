@@ -1,4 +1,5 @@
 -- A list that a run enters is named by the trace: the run stands at each head in a state from which the rules make a pass.
+use Rattle.std.specs.Prelude.{Some, None}
 use mathlib.Core.Path.{◌≡◌, refl, sym, subst}
 use mathlib.Core.Bool.{Bool, true, false, cond, false≢true}
 use mathlib.Core.List.{List, [], ◌∷◌, ◌++◌}
@@ -8,7 +9,6 @@ use native.Mathlib.Omega.{arith}
 use lib.Dec.{eqb, ltb}
 use lib.ListN.{length}
 use borrow.Author.Tests.{eq-eqb}
-use Rattle.ranges.specs.declared.End.TheVariants.{At, Open}
 use Rattle.ranges.specs.declared.Range.{Range}
 use Rattle.ranges.specs.declared.Range.TheVariants.{Empty, Span}
 use Rattle.ranges.specs.Ranges as ranges
@@ -173,16 +173,16 @@ module _ (n : ℕ) (small : n ≤ 64) (body : State → Answer State) (entered :
       (at v : ℕ) (s : State) → v < n → Fit n s → Holds n s σ → (r : Range) → laws.In r (σ v) →
       Sure (λ _. Named place (trace.values n body entered rest rest_entered v s r)) (rules.values n body rest at v s r)
   values_names rest rest_entered rest_names at v s lt f h Empty i = refused
-  values_names rest rest_entered rest_names at v s lt f h (Span x Open) i = refused
-  values_names rest rest_entered rest_names at v s lt f h (Span x (At y)) i = sure_elim (ltb 4096 (y - x + 1)) (λ _. refused) (λ few.
+  values_names rest rest_entered rest_names at v s lt f h (Span x None) i = refused
+  values_names rest rest_entered rest_names at v s lt f h (Span x (Some y)) i = sure_elim (ltb 4096 (y - x + 1)) (λ _. refused) (λ few.
       sure_map (enumerated_names rest rest_entered rest_names v s lt f h (y - x + 1) x states.empty i.0 (omega arith)) (λ _. named_else (ltb 4096 (y - x + 1)) few))
 
   normalized_names : (vs : List ℕ) (at : ℕ) (s : State) → EachBelow n vs → Fit n s → Holds n s σ → Sure (λ _. Named place (trace.normalized n body entered at vs s)) (rules.normalized n body at vs s)
   unfolding rules.normalized trace.normalized
   normalized_names [] at s lt f h = body_names s f h
-  normalized_names (v ∷ vs) at s lt f h = sure_elim s.live
+  normalized_names (v ∷ vs) at s lt f h = sure_elim (states.is_live s)
       (λ l. sure_map (values_names (rules.normalized n body (at + 1) vs) (trace.normalized n body entered (at + 1) vs) (λ t. normalized_names vs (at + 1) t lt.1) at v s lt.0 f h (states.get s v) (laws.in_of (states.get s v) (σ v) (h.each v lt.0)))
-      (λ _. named_if s.live l))
+      (λ _. named_if (states.is_live s) l))
       (λ _. refused)
 
 -- ---- statements

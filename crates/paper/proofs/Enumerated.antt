@@ -1,4 +1,5 @@
 -- Normalize: a store's value of the given variable is one of the values enumerated.
+use Rattle.std.specs.Prelude.{Some, None}
 use mathlib.Core.Path.{◌≡◌, refl, sym, ◌∙◌, subst}
 use mathlib.Core.Bool.{Bool, true, false, false≢true}
 use mathlib.Core.List.{List, [], ◌∷◌}
@@ -6,7 +7,6 @@ use Prim.Native.Nat.{ℕ, zero, suc, ◌+◌, ◌-◌, ◌≤◌, ◌<◌}
 use native.Mathlib.Omega.{arith}
 use lib.Dec.{eqb, ltb}
 use borrow.Author.Tests.{eqb-true, eqb-false}
-use Rattle.ranges.specs.declared.End.TheVariants.{At, Open}
 use Rattle.ranges.specs.declared.Range.{Range}
 use Rattle.ranges.specs.declared.Range.TheVariants.{Empty, Span}
 use Rattle.ranges.specs.Ranges as ranges
@@ -49,10 +49,10 @@ module _ (n : ℕ) (small : n ≤ 64) (body : State → Answer State) (Does : St
       here false σ τ q h d t T k l = l (eqb-false (σ v) x q)
 
   values_ok : (rest : State → Answer State) → ((s : State) → Fit n s → Sure (Post n Does s) (rest s)) →
-      (at v : ℕ) (s : State) → v < n → Fit n s → s.live ≡ true → (r : Range) → ((σ : Store) → Holds n s σ → laws.In r (σ v)) → Sure (Post n Does s) (rules.values n body rest at v s r)
+      (at v : ℕ) (s : State) → v < n → Fit n s → states.is_live s ≡ true → (r : Range) → ((σ : Store) → Holds n s σ → laws.In r (σ v)) → Sure (Post n Does s) (rules.values n body rest at v s r)
   values_ok rest rest_ok at v s lt f l Empty h = refused
-  values_ok rest rest_ok at v s lt f l (Span a Open) h = refused
-  values_ok rest rest_ok at v s lt f l (Span a (At b)) h = sure_elim (ltb 4096 (b - a + 1)) (λ _. refused) (λ _.
+  values_ok rest rest_ok at v s lt f l (Span a None) h = refused
+  values_ok rest rest_ok at v s lt f l (Span a (Some b)) h = sure_elim (ltb 4096 (b - a + 1)) (λ _. refused) (λ _.
       sure_map (enumerated_ok rest rest_ok v s lt f (b - a + 1) a states.empty (fit_empty n)) (λ t T. record {
         fit = T.fit;
         dead = λ d. absurd (false≢true (sym d ∙ l));
@@ -62,6 +62,6 @@ module _ (n : ℕ) (small : n ≤ 64) (body : State → Answer State) (Does : St
   pub normalized_ok : (vs : List ℕ) (at : ℕ) (s : State) → EachBelow n vs → Fit n s → Sure (Post n Does s) (rules.normalized n body at vs s)
   unfolding rules.normalized
   normalized_ok [] at s lt f = body_ok s f
-  normalized_ok (v ∷ vs) at s lt f = sure_elim s.live
+  normalized_ok (v ∷ vs) at s lt f = sure_elim (states.is_live s)
       (λ l. values_ok (rules.normalized n body (at + 1) vs) (λ t. normalized_ok vs (at + 1) t lt.1) at v s lt.0 f l (states.get s v) (λ σ h. laws.in_of (states.get s v) (σ v) (h.each v lt.0)))
       (λ _. refused)

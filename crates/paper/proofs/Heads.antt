@@ -1,10 +1,10 @@
 -- A loop's analysis looks at its pass at the heads alone, a normalize at its body at the points alone.
+use Rattle.std.specs.Prelude.{Some, None}
 use mathlib.Core.Path.{◌≡◌, refl, ap, ◌∙◌}
 use mathlib.Core.Bool.{Bool, true, false}
 use mathlib.Core.List.{List, [], ◌∷◌}
 use Prim.Native.Nat.{ℕ, zero, suc, ◌+◌, ◌-◌}
 use lib.Dec.{ltb}
-use Rattle.ranges.specs.declared.End.TheVariants.{At, Open}
 use Rattle.ranges.specs.declared.Range.{Range}
 use Rattle.ranges.specs.declared.Range.TheVariants.{Empty, Span}
 use Rattle.ranges.specs.Ranges as ranges
@@ -85,13 +85,13 @@ module _ (n : ℕ) (body other : State → Answer State) where
   values_points : (rest rest' : State → Answer State) (at v : ℕ) (s : State) (r : Range) → ((x : ℕ) → rest (states.put s v (ranges.point x)) ≡ rest' (states.put s v (ranges.point x))) →
       rules.values n body rest at v s r ≡ rules.values n other rest' at v s r
   values_points rest rest' at v s Empty agree = refl
-  values_points rest rest' at v s (Span a Open) agree = refl
-  values_points rest rest' at v s (Span a (At b)) agree = elim_same (ltb 4096 (b - a + 1)) refl (enumerated_points rest rest' v s agree (b - a + 1) a states.empty)
+  values_points rest rest' at v s (Span a None) agree = refl
+  values_points rest rest' at v s (Span a (Some b)) agree = elim_same (ltb 4096 (b - a + 1)) refl (enumerated_points rest rest' v s agree (b - a + 1) a states.empty)
 
   normalized_points : (vs : List ℕ) (at : ℕ) (s : State) → ((h : State) → Point vs s h → body h ≡ other h) → rules.normalized n body at vs s ≡ rules.normalized n other at vs s
   unfolding rules.normalized
   normalized_points [] at s agree = agree s all_set
-  normalized_points (v ∷ vs) at s agree = elim_same s.live
+  normalized_points (v ∷ vs) at s agree = elim_same (states.is_live s)
       (values_points (rules.normalized n body (at + 1) vs) (rules.normalized n other (at + 1) vs) at v s (states.get s v)
       (λ x. normalized_points vs (at + 1) (states.put s v (ranges.point x)) (λ h P. agree h (set_to x P))))
       refl

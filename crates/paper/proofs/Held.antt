@@ -9,32 +9,30 @@ use Rattle.ranges.specs.declared.Range.{Range}
 use Rattle.ranges.specs.declared.Range.TheVariants.{Empty, Span}
 use Rattle.ranges.proofs.Laws as laws
 use Rattle.states.specs.declared.State.{State}
+use Rattle.states.specs.declared.State.TheVariants as state
 use Rattle.states.specs.declared.Cell.{Cell}
 use Rattle.states.specs.States as states
 use Rattle.states.specs.States.{Fit}
 use Rattle.states.proofs.Cells.{at, set_at}
-use Rattle.states.proofs.Fits.{state, fit_join}
+use Rattle.states.proofs.Fits.{fit_join}
 use Rattle.states.proofs.Order.{within_says, join_above_left, join_above_right}
 use Rattle.paper.specs.Runs.{Store, stored, ◌∈◌, Holds}
 
 -- an empty state holds nothing
-pub holds_dead : {n : ℕ} {s : State} {σ : Store} → s.live ≡ false → Holds n s σ → ⊥
+pub holds_dead : {n : ℕ} {s : State} {σ : Store} → states.is_live s ≡ false → Holds n s σ → ⊥
 holds_dead d h = false≢true (sym d ∙ h.live)
 
 module _ (n : ℕ) (small : n ≤ 64) where
   -- a variable is given a range that holds its new value, and the others stay
   pub put_to : (s : State) (v : ℕ) (r : Range) (σ τ : Store) → v < n → Fit n s → Holds n s σ → τ v ∈ r → ((w : ℕ) → (w ≡ v → ⊥) → τ w ≡ σ w) → Holds n (states.put s v r) τ
-  put_to s v r σ τ lt f h new old = go s.live s.cells r f h new
-    where
-      go : (b : Bool) (cs : List Cell) (r : Range) → Fit n (state b cs) → Holds n (state b cs) σ → τ v ∈ r → Holds n (states.put (state b cs) v r) τ
-      go false cs r f h new = absurd (false≢true h.live)
-      go true cs Empty f h new = absurd (false≢true new)
-      go true cs (Span a e) f h new = record {
-        live = refl;
-        each = λ w k. set_at (λ (q : Range). τ w ∈ q) cs v w (Span a e) (omega (arith, f.long))
-            (λ q. subst (λ (u : ℕ). τ u ∈ Span a e) (sym q) new)
-            (λ ne. subst (λ (x : ℕ). x ∈ at cs w) (sym (old w ne)) (h.each w k));
-      }
+  put_to state.Empty v r σ τ lt f h new old = absurd (false≢true h.live)
+  put_to (state.Live cs) v Empty σ τ lt f h new old = absurd (false≢true new)
+  put_to (state.Live cs) v (Span a e) σ τ lt f h new old = record {
+    live = refl;
+    each = λ w k. set_at (λ (q : Range). τ w ∈ q) cs v w (Span a e) (omega (arith, f.long))
+        (λ q. subst (λ (u : ℕ). τ u ∈ Span a e) (sym q) new)
+        (λ ne. subst (λ (x : ℕ). x ∈ at cs w) (sym (old w ne)) (h.each w k));
+  }
 
   stored_at : (σ : Store) (v x : ℕ) → stored σ v x v ≡ x
   stored_at σ v x = rw (eq-eqb v v refl) refl

@@ -25,7 +25,7 @@ use Rattle.paper.proofs.Splits.{Kept}
 -- the state t holds every store to which R leads from one of s; it is well formed, and empty where s is
 pub record Post (n : ℕ) (R : Store → Store → Type 0) (s t : State) : Type 0 where
   pub fit : Fit n t
-  pub dead : s.live ≡ false → t.live ≡ false
+  pub dead : states.is_live s ≡ false → states.is_live t ≡ false
   pub held : (σ τ : Store) → Holds n s σ → R σ τ → Holds n t τ
 
 -- one turn of a loop
@@ -126,7 +126,7 @@ module _ (n : ℕ) (small : n ≤ 64) (e : Event) (b : Statements) (pass : State
   -- what a stage needs of the way in which a state grows
   pub record Grows (grow : State → State → State) : Type 0 where
     pub fit : (s t : State) → Fit n s → Fit n t → Fit n (grow s t)
-    pub dead : (s t : State) → s.live ≡ false → t.live ≡ false → (grow s t).live ≡ false
+    pub dead : (s t : State) → states.is_live s ≡ false → states.is_live t ≡ false → states.is_live (grow s t) ≡ false
     pub above : (s t : State) → Fit n s → Fit n t → states.within n s (grow s t) ≡ true
 
   pub join_grows : Grows (states.join n)
@@ -138,7 +138,7 @@ module _ (n : ℕ) (small : n ≤ 64) (e : Event) (b : Statements) (pass : State
   -- from s, after at most k passes
   pub record Grown (k i : ℕ) (s : State) (j : Settling) : Type 0 where
     pub fit : Fit n j.at
-    pub dead : s.live ≡ false → j.at.live ≡ false
+    pub dead : states.is_live s ≡ false → states.is_live j.at ≡ false
     pub above : states.within n s j.at ≡ true
     pub accepted : j.settled ≡ true → Accepted n pass j.at
     pub few : j.passes ≤ i + k
@@ -166,15 +166,15 @@ module _ (n : ℕ) (small : n ≤ 64) (e : Event) (b : Statements) (pass : State
       })))
 
   -- a pass from an empty state stops
-  was_live : (s : State) (p : Pass) → Passed n e b s p → states.within n p.next s ≡ false → s.live ≡ true
-  was_live s p P w = go s.live refl
+  was_live : (s : State) (p : Pass) → Passed n e b s p → states.within n p.next s ≡ false → states.is_live s ≡ true
+  was_live s p P w = go (states.is_live s) refl
     where
-      go : (b : Bool) → s.live ≡ b → s.live ≡ true
+      go : (b : Bool) → states.is_live s ≡ b → states.is_live s ≡ true
       go true l = l
       go false d = absurd (false≢true (sym w ∙ within_dead n small p.next s (P.next.dead d)))
 
   -- each widening pass that does not stop gives up a start or an end
-  falls : (k i : ℕ) (s : State) → Fit n s → 0 < k → (s.live ≡ true → left_of n small s < k) → Sure (λ w. w.settled ≡ true) (rules.growing n pass exit (states.widen n) k i s)
+  falls : (k i : ℕ) (s : State) → Fit n s → 0 < k → (states.is_live s ≡ true → left_of n small s < k) → Sure (λ w. w.settled ≡ true) (rules.growing n pass exit (states.widen n) k i s)
   unfolding rules.growing
   falls zero i s f h enough = absurd (omega arith)
   falls (suc k) i s f h enough = sure_then (pass_ok s f) (λ p P. sure_elim (states.within n p.next s)
@@ -190,7 +190,7 @@ module _ (n : ℕ) (small : n ≤ 64) (e : Event) (b : Statements) (pass : State
   -- the two stages
   pub record Settles (s : State) (m : Settled) : Type 0 where
     pub fit : Fit n m.at
-    pub dead : s.live ≡ false → m.at.live ≡ false
+    pub dead : states.is_live s ≡ false → states.is_live m.at ≡ false
     pub above : states.within n s m.at ≡ true
     pub accepted : Accepted n pass m.at
     pub joined : m.joined ≤ 100
@@ -231,8 +231,8 @@ module _ (n : ℕ) (small : n ≤ 64) (e : Event) (b : Statements) (pass : State
     record Unrolled (k i : ℕ) (t u : Pass) : Type 0 where
       next_fit : Fit n u.next
       exit_fit : Fit n u.exit
-      next_dead : t.next.live ≡ false → u.next.live ≡ false
-      exit_dead : t.next.live ≡ false → t.exit.live ≡ false → u.exit.live ≡ false
+      next_dead : states.is_live t.next ≡ false → states.is_live u.next ≡ false
+      exit_dead : states.is_live t.next ≡ false → states.is_live t.exit ≡ false → states.is_live u.exit ≡ false
       next_held : (j : ℕ) → j ≡ i + k → Covered n e b first j u.next
       exit_kept : (τ : Store) → Holds n t.exit τ → Holds n u.exit τ
       exit_held : (j : ℕ) → i ≤ j → j < i + k → (σ τ : Store) → Holds n first σ → Turned e b j σ τ → False e τ → Holds n u.exit τ
@@ -309,7 +309,7 @@ module _ (n : ℕ) (small : n ≤ 64) (e : Event) (b : Statements) (pass : State
     -- all that is certain, and that nothing leaves a loop which nothing enters
     pub record Looping (u : ℕ) (l : Looped) : Type 0 where
       pub holds : LoopHolds n pass exit e b u first l
-      pub dead : first.live ≡ false → l.exits.live ≡ false
+      pub dead : states.is_live first ≡ false → states.is_live l.exits ≡ false
 
     pub loop_ok : (u : ℕ) → Fit n first → Sure (Looping u) (rules.loop n pass exit u first)
     unfolding rules.loop

@@ -1,4 +1,5 @@
 -- The analysis holds every finite run that does not fail.
+use Rattle.std.specs.Prelude.{Option, Some, None}
 use mathlib.Core.Path.{refl}
 use mathlib.Core.Bool.{Bool, true, false, cond}
 use mathlib.Core.List.{List}
@@ -7,8 +8,6 @@ use native.Mathlib.Nat.{mul_comm}
 use lib.ListN.{length}
 use Rattle.ranges.specs.declared.Range.{Range}
 use Rattle.ranges.specs.Ranges as ranges
-use Rattle.ranges.specs.declared.Bounded.{Bounded}
-use Rattle.ranges.specs.declared.Bounded.TheVariants.{Is, Over}
 use Rattle.ranges.proofs.Laws as laws
 use Rattle.states.specs.declared.State.{State}
 use Rattle.states.specs.States as states
@@ -75,10 +74,10 @@ module _ (g : Setting) (small : g.n ≤ 64) where
       (laws.sum_holds (ranges.sum (rules.old s v add) r) (ranges.point k) (cond add (σ v) 0 + worth σ x) k
       (laws.sum_holds (rules.old s v add) r (cond add (σ v) 0) (worth σ x) (old_held add s v σ lt h) i) (laws.point_holds k))
 
-  assigned_ok : (at : ℕ) (s : State) (v : ℕ) (add : Bool) (x : Addend) (k : ℕ) (q : Bounded) → v < g.n → Fit g.n s →
+  assigned_ok : (at : ℕ) (s : State) (v : ℕ) (add : Bool) (x : Addend) (k : ℕ) (q : Option Range) → v < g.n → Fit g.n s →
       ((σ : Store) → Holds g.n s σ → laws.HoldsBounded q (worth σ x)) → Sure (Post g.n (Run (Assign v add x k)) s) (rules.assigned at s v add k q)
-  assigned_ok at s v add x k (Is r) lt f h = given (set_ok v (ranges.sum (ranges.sum (rules.old s v add) r) (ranges.point k)) s _ lt f (λ σ τ i d. assigned_held v add x k r s σ τ lt f i (h σ i) d))
-  assigned_ok at s v add x k Over lt f h = sure_if s.live (λ _. refused) (λ d. given (record { fit = f; dead = λ x. x; held = λ σ τ i _. absurd (holds_dead d i) }))
+  assigned_ok at s v add x k (Some r) lt f h = given (set_ok v (ranges.sum (ranges.sum (rules.old s v add) r) (ranges.point k)) s _ lt f (λ σ τ i d. assigned_held v add x k r s σ τ lt f i (h σ i) d))
+  assigned_ok at s v add x k None lt f h = sure_if (states.is_live s) (λ _. refused) (λ d. given (record { fit = f; dead = λ x. x; held = λ σ τ i _. absurd (holds_dead d i) }))
 
   lessened_held : (v k : ℕ) (s : State) (σ τ : Store) → v < g.n → Fit g.n s → Holds g.n s σ → Run (Decrement v k) σ τ → Holds g.n (states.put s v (ranges.less (states.get s v) k)) τ
   lessened_held v k s σ τ lt f h decremented = put_stored g.n small s v (ranges.less (states.get s v) k) σ (σ v - k) lt f h (laws.less_holds (states.get s v) k (σ v) (h.each v lt))

@@ -1,13 +1,13 @@
 -- Both sides of an event hold the stores that go there.
+use Rattle.std.specs.Prelude.{Option, Some, None}
 use mathlib.Core.Path.{◌≡◌, refl}
 use mathlib.Core.Bool.{Bool, true, false}
 use mathlib.Core.List.{List}
 use mathlib.Core.Logic.{◌⊎◌, inl, inr}
 use Prim.Native.Nat.{ℕ, ◌+◌, ◌≤◌, ◌<◌}
 use lib.ListN.{length}
+use Rattle.ranges.specs.declared.Range.{Range}
 use Rattle.ranges.specs.Ranges as ranges
-use Rattle.ranges.specs.declared.Bounded.{Bounded}
-use Rattle.ranges.specs.declared.Bounded.TheVariants.{Is, Over}
 use Rattle.ranges.proofs.Laws as laws
 use Rattle.states.specs.declared.State.{State}
 use Rattle.states.specs.States as states
@@ -44,7 +44,7 @@ mutual
 -- the state t holds every store of s that has the property; it is well formed, and empty where s is
 pub record Kept (n : ℕ) (P : Store → Type 0) (s t : State) : Type 0 where
   pub fit : Fit n t
-  pub dead : s.live ≡ false → t.live ≡ false
+  pub dead : states.is_live s ≡ false → states.is_live t ≡ false
   pub held : (σ : Store) → Holds n s σ → P σ → Holds n t σ
 
 pub record Split (n : ℕ) (e : Event) (s : State) (u : Sides) : Type 0 where
@@ -55,7 +55,7 @@ pub record Split (n : ℕ) (e : Event) (s : State) (u : Sides) : Type 0 where
 pub record Splits (n : ℕ) (es : Events) (t u : Sides) : Type 0 where
   pub yes : Kept n (AllTrue es) t.yes u.yes
   pub no_fit : Fit n u.no
-  pub no_dead : t.yes.live ≡ false → t.no.live ≡ false → u.no.live ≡ false
+  pub no_dead : states.is_live t.yes ≡ false → states.is_live t.no ≡ false → states.is_live u.no ≡ false
   pub no_kept : (σ : Store) → Holds n t.no σ → Holds n u.no σ
   pub no_held : (σ : Store) → Holds n t.yes σ → OneFalse es σ → Holds n u.no σ
 
@@ -68,10 +68,10 @@ kept_same : {n : ℕ} {P : Store → Type 0} (s : State) → Fit n s → Kept n 
 kept_same s f = record { fit = f; dead = λ d. d; held = λ σ h _. h }
 
 module _ (g : Setting) (small : g.n ≤ 64) where
-  cut_ok : (at : ℕ) (s : State) (v : ℕ) (xs : List ℕ) (q : Bounded) → v < g.n → Fit g.n s →
+  cut_ok : (at : ℕ) (s : State) (v : ℕ) (xs : List ℕ) (q : Option Range) → v < g.n → Fit g.n s →
       ((σ : Store) → Holds g.n s σ → ranges.has xs (σ v) ≡ false → laws.HoldsBounded q (σ v)) → Sure (Split g.n (InSet v xs) s) (cut at s v xs q)
   unfolding True False
-  cut_ok at s v xs (Is r) lt f out = given (record {
+  cut_ok at s v xs (Some r) lt f out = given (record {
     yes = record {
       fit = fit_put g.n small s v (ranges.retain (states.get s v) xs) lt f;
       dead = put_dead s v (ranges.retain (states.get s v) xs);
@@ -83,7 +83,7 @@ module _ (g : Setting) (small : g.n ≤ 64) where
       held = λ σ h t. put_kept g.n small s v r σ lt f h (out σ h t);
     };
   })
-  cut_ok at s v xs Over lt f out = sure_if s.live (λ _. refused) (λ d. given (record { yes = kept_same s f; no = kept_same s f }))
+  cut_ok at s v xs None lt f out = sure_if (states.is_live s) (λ _. refused) (λ d. given (record { yes = kept_same s f; no = kept_same s f }))
 
   mutual
     unfolding rules.event rules.events True False AllTrue OneFalse

@@ -1,6 +1,5 @@
 -- The definitions at work: document 01's 'Run only' lines and the decisions taken on it, by computation.
-use Rattle.std.specs.Prelude.{◌≡◌, refl, List, [], ◌∷◌, ℕ}
-use Rattle.ranges.specs.declared.End.TheVariants.{At}
+use Rattle.std.specs.Prelude.{Some, ◌≡◌, refl, List, [], ◌∷◌, ℕ}
 use Rattle.ranges.specs.declared.Range.TheVariants.{Span}
 use Rattle.ranges.specs.Ranges as ranges
 use Rattle.states.specs.Answers.{Gives, Refuses}
@@ -27,7 +26,7 @@ pub record Examples : Type 0 where
   -- {0}, {0, ...}
   pub coin_line : answers.ran coin ≡ Gives (record { n = 2; state = states.live (both (ranges.point 0) ranges.naturals) })
   -- {0, ..., 9}
-  pub remainder_line : answers.ran remainder ≡ Gives (record { n = 1; state = states.live (one (Span 0 (At 9))) })
+  pub remainder_line : answers.ran remainder ≡ Gives (record { n = 1; state = states.live (one (Span 0 (Some 9))) })
   -- an empty line
   pub no_statement : answers.ran (0 ∷ []) ≡ Gives (record { n = 0; state = states.live states.zeros })
   -- empty

@@ -34,7 +34,7 @@ pub record Covers (ws : List ℕ) (n : ℕ) (cs : List Cell) (u : ℕ) (t : Stat
   pub read : reader.program ws n ≡ Read program.tree (length ws)
   -- every finite run of it that does not fail ends in t; where t is empty, none ends
   pub covers : (σ τ : Store) → Holds n (states.live cs) σ → Runs program.tree σ τ → Holds n t τ
-  pub none_ends : t.live ≡ false → (σ τ : Store) → Holds n (states.live cs) σ → Runs program.tree σ τ → ⊥
+  pub none_ends : states.is_live t ≡ false → (σ τ : Store) → Holds n (states.live cs) σ → Runs program.tree σ τ → ⊥
   -- every list that a run enters, also one that does not end, is named by the trace
   pub named : (σ : Store) (place : ℕ) → Holds n (states.live cs) σ → ListEnters program.tree 1 σ place → ranges.has (answers.entered ws n cs u) place ≡ true
   -- t is a state of n variables

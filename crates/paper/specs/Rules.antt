@@ -1,11 +1,8 @@
 -- The rules of the analysis, on trees: document 01, "Rules of the analysis". A place is a word's index in the program.
-use Rattle.std.specs.Prelude.{Bool, true, false, cond, List, [], ◌∷◌, ℕ, zero, suc, ◌+◌, ◌-◌, ◌/◌, max, ltb, length}
-use Rattle.ranges.specs.declared.End.TheVariants.{At, Open}
+use Rattle.std.specs.Prelude.{Option, Some, None, Bool, true, false, cond, List, [], ◌∷◌, ℕ, zero, suc, ◌+◌, ◌-◌, ◌/◌, max, ltb, length}
 use Rattle.ranges.specs.declared.Range.{Range}
 use Rattle.ranges.specs.declared.Range.TheVariants.{Empty, Span}
 use Rattle.ranges.specs.Ranges as ranges
-use Rattle.ranges.specs.declared.Bounded.{Bounded}
-use Rattle.ranges.specs.declared.Bounded.TheVariants.{Is, Over}
 use Rattle.states.specs.declared.State.{State}
 use Rattle.states.specs.Answers.{Answer, Gives, Refuses, and_then}
 use Rattle.states.specs.States as states
@@ -24,15 +21,15 @@ pub record Setting : Type 0 where
 
 -- from a start below an end; an empty interval is Empty
 abbrev pub below : ℕ → ℕ → Range
-below start end = cond (ltb start end) (Span start (At (end - 1))) Empty
+below start end = cond (ltb start end) (Span start (Some (end - 1))) Empty
 
 -- 1 the integer point; 2, 3 [0,1]; 5 [0,n]; 6 from 0 below the length; 12 from start below end; 4, 7 to 11 [0,–)
 abbrev pub drawn : Draw → Range
 drawn (Dirac numer denom) = ranges.point (numer / denom)
-drawn Bernoulli = Span 0 (At 1)
-drawn (BernoulliVarProb v) = Span 0 (At 1)
+drawn Bernoulli = Span 0 (Some 1)
+drawn (BernoulliVarProb v) = Span 0 (Some 1)
 drawn (BinomialVarTrials v) = ranges.naturals
-drawn (Binomial n) = Span 0 (At n)
+drawn (Binomial n) = Span 0 (Some n)
 drawn (Categorical length) = below 0 length
 drawn (NegBinomialVarSuccesses v) = ranges.naturals
 drawn (NegBinomial n) = ranges.naturals
@@ -49,9 +46,9 @@ pub record Sides : Type 0 where
   pub no : State
 
 -- event 1 gives retain and remove; a removal over the top is 8 at the event, unless the state is empty
-abbrev pub cut : ℕ → State → ℕ → List ℕ → Bounded → Answer Sides
-cut at s v values (Is removed) = Gives (record { yes = states.put s v (ranges.retain (states.get s v) values); no = states.put s v removed })
-cut at s v values Over = cond s.live (Refuses 8 at) (Gives (record { yes = s; no = s }))
+abbrev pub cut : ℕ → State → ℕ → List ℕ → Option Range → Answer Sides
+cut at s v values (Some removed) = Gives (record { yes = states.put s v (ranges.retain (states.get s v) values); no = states.put s v removed })
+cut at s v values None = cond (states.is_live s) (Refuses 8 at) (Gives (record { yes = s; no = s }))
 
 -- event 4 exchanges the sides
 abbrev pub exchanged : Sides → Sides
@@ -198,21 +195,21 @@ module _ (n : ℕ) (body : State → Answer State) where
   -- 9: no finite range; 10: more than 4,096 values; else each value, joined from empty
   abbrev pub values : (State → Answer State) → ℕ → ℕ → State → Range → Answer State
   values rest at v s Empty = Refuses 9 at
-  values rest at v s (Span start Open) = Refuses 9 at
-  values rest at v s (Span start (At end)) =
+  values rest at v s (Span start None) = Refuses 9 at
+  values rest at v s (Span start (Some end)) =
       elim (ltb 4096 (end - start + 1)) [ true ↦ Refuses 10 at | false ↦ enumerated rest v s (end - start + 1) start states.empty ]
 
   -- the given variables are peeled off one at a time; with none left, the body; an empty state counts as unbounded
   unfoldable pub normalized : ℕ → List ℕ → State → Answer State
   normalized at [] s = body s
   normalized at (v ∷ vs) s =
-      elim s.live [ true ↦ values (normalized (at + 1) vs) at v s (states.get s v) | false ↦ Refuses 9 at ]
+      elim (states.is_live s) [ true ↦ values (normalized (at + 1) vs) at v s (states.get s v) | false ↦ Refuses 9 at ]
 
 -- ---- statements
 
 -- factor times the old range of w
-abbrev pub scaled : State → Addend → Bounded
-scaled s Nought = Is (ranges.point 0)
+abbrev pub scaled : State → Addend → Option Range
+scaled s Nought = Some (ranges.point 0)
 scaled s (Times factor w) = ranges.times (states.get s w) factor
 
 -- what a draw or an assign begins with: the old range if `add`, else [0,0]
@@ -220,9 +217,9 @@ abbrev pub old : State → ℕ → Bool → Range
 old s v add = cond add (states.get s v) (ranges.point 0)
 
 -- the old range if `add`, else [0,0], with the product and the offset; a product over the top is 8 at the assign, unless the state is empty
-abbrev pub assigned : ℕ → State → ℕ → Bool → ℕ → Bounded → Answer State
-assigned at s v add offset (Is product) = Gives (states.put s v (ranges.sum (ranges.sum (old s v add) product) (ranges.point offset)))
-assigned at s v add offset Over = cond s.live (Refuses 8 at) (Gives s)
+abbrev pub assigned : ℕ → State → ℕ → Bool → ℕ → Option Range → Answer State
+assigned at s v add offset (Some product) = Gives (states.put s v (ranges.sum (ranges.sum (old s v add) product) (ranges.point offset)))
+assigned at s v add offset None = cond (states.is_live s) (Refuses 8 at) (Gives s)
 
 unfoldable mutual
   pub statement : Setting → ℕ → Statement → State → Answer State

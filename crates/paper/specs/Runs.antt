@@ -89,5 +89,5 @@ x ∈ r = ranges.holds r x ≡ true
 
 -- a state over n variables holds a store: it is not empty, and each of the n ranges holds the variable's value
 pub record Holds (n : ℕ) (s : State) (σ : Store) : Type 0 where
-  pub live : s.live ≡ true
+  pub live : states.is_live s ≡ true
   pub each : (v : ℕ) → v < n → σ v ∈ states.get s v

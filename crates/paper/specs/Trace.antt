@@ -1,7 +1,6 @@
 -- Which lists the analysis enters with a state that is not empty: then-lists, else-lists and loop bodies, each by the place of its count.
 -- By recursion on the same trees as the rules; in the order of the work, up to a refusal; a list may be named more than once.
-use Rattle.std.specs.Prelude.{true, false, cond, List, [], ◌∷◌, ◌++◌, ℕ, zero, suc, ◌+◌, ◌-◌, ltb, length, set}
-use Rattle.ranges.specs.declared.End.TheVariants.{At, Open}
+use Rattle.std.specs.Prelude.{Some, None, true, false, cond, List, [], ◌∷◌, ◌++◌, ℕ, zero, suc, ◌+◌, ◌-◌, ltb, length, set}
 use Rattle.ranges.specs.declared.Range.{Range}
 use Rattle.ranges.specs.declared.Range.TheVariants.{Empty, Span}
 use Rattle.ranges.specs.Ranges as ranges
@@ -20,7 +19,7 @@ after (Refuses number place) f = []
 
 -- the list whose count stands at a place is gone over from a state
 abbrev pub entering : ℕ → State → List ℕ
-entering at s = cond s.live (at ∷ []) []
+entering at s = cond (states.is_live s) (at ∷ []) []
 
 -- a loop over n variables, by its pass and by the lists that a pass from a state enters
 module _ (n : ℕ) (pass : State → Answer Pass) (passed : State → List ℕ) where
@@ -69,14 +68,14 @@ module _ (n : ℕ) (body : State → Answer State) (entered : State → List ℕ
 
   abbrev pub values : (State → Answer State) → (State → List ℕ) → ℕ → State → Range → List ℕ
   values rest entered_by_rest v s Empty = []
-  values rest entered_by_rest v s (Span start Open) = []
-  values rest entered_by_rest v s (Span start (At end)) =
+  values rest entered_by_rest v s (Span start None) = []
+  values rest entered_by_rest v s (Span start (Some end)) =
       elim (ltb 4096 (end - start + 1)) [ true ↦ [] | false ↦ enumerated rest entered_by_rest v s (end - start + 1) start ]
 
   unfoldable pub normalized : ℕ → List ℕ → State → List ℕ
   normalized at [] s = entered s
   normalized at (v ∷ vs) s =
-      elim s.live [
+      elim (states.is_live s) [
         | true ↦ values (rules.normalized n body (at + 1) vs) (normalized (at + 1) vs) v s (states.get s v)
         | false ↦ []
       ]
