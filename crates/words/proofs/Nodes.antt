@@ -88,21 +88,6 @@ module _ {ws : List ℕ} {at : ℕ} where
   pub draw_words : (kind : ℕ) (d : Draw) → Begins ws at (code.draw d) → get_or ws at 0 ≡ kind → length (code.draw d) ≡ draw_size kind
   draw_words kind d h k = rw k at (draw_here d h).size
 
-  -- the kinds of two words
-  pub draw_pair : (d : Draw) → Begins ws at (code.draw d) → (get_or ws at 0 ≡ 1 → ⊥) → (get_or ws at 0 ≡ 12 → ⊥) → (get_or ws at 0 ≡ 2 → ⊥) → (get_or ws at 0 ≡ 9 → ⊥) → (get_or ws at 0 ≡ 10 → ⊥) → length (code.draw d) ≡ 2
-  draw_pair (Dirac p q) h k1 k12 k2 k9 k10 = absurd (k1 (begins_head h))
-  draw_pair Bernoulli h k1 k12 k2 k9 k10 = absurd (k2 (begins_head h))
-  draw_pair (BernoulliVarProb v) h k1 k12 k2 k9 k10 = refl
-  draw_pair (BinomialVarTrials v) h k1 k12 k2 k9 k10 = refl
-  draw_pair (Binomial n) h k1 k12 k2 k9 k10 = refl
-  draw_pair (Categorical n) h k1 k12 k2 k9 k10 = refl
-  draw_pair (NegBinomialVarSuccesses v) h k1 k12 k2 k9 k10 = refl
-  draw_pair (NegBinomial n) h k1 k12 k2 k9 k10 = refl
-  draw_pair Geometric h k1 k12 k2 k9 k10 = absurd (k9 (begins_head h))
-  draw_pair Poisson h k1 k12 k2 k9 k10 = absurd (k10 (begins_head h))
-  draw_pair (PoissonVarRate v) h k1 k12 k2 k9 k10 = refl
-  draw_pair (Uniform a b) h k1 k12 k2 k9 k10 = absurd (k12 (begins_head h))
-
 -- ---- events
 
 -- 1 var count values
@@ -572,17 +557,8 @@ statement_some Fail = omega arith
 statement_some (Normalize vs b) = omega arith
 
 module _ {ws : List ℕ} {at : ℕ} where
-  pub draw_ends : (d : Draw) → Begins ws at (code.draw d) → at + length (code.draw d) ≤ length ws
-  draw_ends d h = begins_ends h (draw_some d)
-
   pub event_ends : (e : Event) → Begins ws at (code.event e) → at + length (code.event e) ≤ length ws
   event_ends e h = begins_ends h (event_some e)
 
-  pub events_end : (es : Events) → Begins ws at (conjunction es) → at + length (conjunction es) ≤ length ws
-  events_end es h = begins_ends h (omega arith)
-
   pub statement_ends : (c : Statement) → Begins ws at (code.statement c) → at + length (code.statement c) ≤ length ws
   statement_ends c h = begins_ends h (statement_some c)
-
-  pub list_ends : (cs : Statements) → Begins ws at (code.program cs) → at + length (code.program cs) ≤ length ws
-  list_ends cs h = begins_ends h (omega arith)

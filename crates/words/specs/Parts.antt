@@ -59,33 +59,6 @@ pub record ListWithin (n : ℕ) (cs : Statements) : Type 0 where
   pub loops : ℕ
   pub holds : StatementsIn n deep loops cs
 
--- ---- at an index, within the limits
-
-pub record CheckedDrawAt (n : ℕ) (ws : List ℕ) (at : ℕ) : Type 0 where
-  pub tree : Draw
-  pub is : Begins ws at (code.draw tree)
-  pub within : DrawIn n tree
-
-pub record CheckedEventAt (n : ℕ) (ws : List ℕ) (at : ℕ) : Type 0 where
-  pub tree : Event
-  pub is : Begins ws at (code.event tree)
-  pub within : EventWithin n tree
-
-pub record CheckedEventsAt (n : ℕ) (ws : List ℕ) (at : ℕ) : Type 0 where
-  pub tree : Events
-  pub is : Begins ws at (conjunction tree)
-  pub within : EventsWithin n tree
-
-pub record CheckedStatementAt (n : ℕ) (ws : List ℕ) (at : ℕ) : Type 0 where
-  pub tree : Statement
-  pub is : Begins ws at (code.statement tree)
-  pub within : StatementWithin n tree
-
-pub record CheckedListAt (n : ℕ) (ws : List ℕ) (at : ℕ) : Type 0 where
-  pub tree : Statements
-  pub is : Begins ws at (code.program tree)
-  pub within : ListWithin n tree
-
 -- ---- the words are one part whole, within the limits
 
 pub record DrawIs (n : ℕ) (ws : List ℕ) : Type 0 where

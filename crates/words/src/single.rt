@@ -1,86 +1,85 @@
 // Single words.
-#![tactic(auto, unfolding(crate::specs::Words::seen, paper::specs::Reader::and_read, paper::specs::Reader::if_read, paper::specs::Reader::word, paper::specs::Reader::unless, paper::specs::Reader::flag))]
+#![tactic(auto, unfolding(crate::specs::Words::seen, crate::specs::Words::after, paper::specs::Reader::and_read, paper::specs::Reader::if_read, paper::specs::Reader::word, paper::specs::Reader::unless, paper::specs::Reader::flag))]
 
-ghost use Rattle.std.specs.Prelude.{◌≡◌, max};
-ghost use Rattle.paper.specs.Code as code;
+ghost use Rattle.std.specs.Prelude.{◌≡◌, ℕ, [], ◌∷◌};
 ghost use Rattle.paper.specs.Reader as reader;
-ghost use Rattle.words.specs.Words.{seen, itself, one_more, unused};
+ghost use Rattle.paper.specs.Reader.{Reading};
+ghost use Rattle.states.specs.Answers.{number_of};
+ghost use Rattle.words.specs.Words.{seen, after, itself, one_more, Reads};
 
-use crate::Seen;
+use states::{Fault, Refusal};
 
-// The higher of two.
-pub fn higher(a: u64, b: u64) -> u64
-    ensures { result ≡ max a b }
-{
-    if a < b { b } else { a }
-}
-
-// Any word. The only function of the check that indexes the words.
-pub fn word(words: &[u64], at: usize) -> Seen
+// Any word. The only function of the check that reads the words.
+pub fn word(words: &[u64], at: usize) -> Result<(usize, u64), Refusal>
     ensures { result ≡ seen itself (reader.word words.now at) }
 {
-    if at < words.len() {
-        Seen::Upto(at + 1, words[at])
-    } else {
-        Seen::Refused(3, words.len())
+    match words.get(at) {
+        Some(&word) => Ok((at + 1, word)),
+        None => Err(Fault::NoProgram.at(words.len())),
     }
 }
 
-// A word of at most `limit`, or the refusal of that number.
-pub fn most(words: &[u64], limit: u64, number: u64, at: usize) -> Seen
-    ensures { result ≡ seen itself (reader.most words.now limit number at) }
+// A word of at most `limit`, or the refusal of that fault.
+pub fn most(words: &[u64], limit: u64, fault: Fault, at: usize) -> Result<(usize, u64), Refusal>
+    ensures { result ≡ seen itself (reader.most words.now limit (number_of fault) at) }
 {
-    let any = word(words, at);
-    let Seen::Upto(next, x) = any else {
-        return any;
-    };
+    let (next, x) = word(words, at)?;
     if x <= limit {
-        Seen::Upto(next, x)
+        Ok((next, x))
     } else {
-        Seen::Refused(number, at)
+        Err(fault.at(at))
     }
 }
 
 // A value of 32 bits.
-pub fn small(words: &[u64], at: usize) -> Seen
-    ensures { result ≡ seen unused (reader.small words.now at) }
+pub fn small(words: &[u64], at: usize) -> Result<usize, Refusal>
+    ensures { result ≡ after (reader.small words.now at) }
 {
-    let value = most(words, 4294967295, 3, at);
-    let Seen::Upto(next, _) = value else {
-        return value;
-    };
-    Seen::Upto(next, 0)
+    let (next, _) = most(words, u64::from(u32::MAX), Fault::NoProgram, at)?;
+    Ok(next)
 }
 
 // A word that has to be 0.
-pub fn nought(words: &[u64], at: usize) -> Seen
-    ensures { result ≡ seen unused (reader.nought words.now at) }
+pub fn nought(words: &[u64], at: usize) -> Result<usize, Refusal>
+    ensures { result ≡ after (reader.nought words.now at) }
 {
-    let value = most(words, 0, 3, at);
-    let Seen::Upto(next, _) = value else {
-        return value;
-    };
-    Seen::Upto(next, 0)
+    let (next, _) = most(words, 0, Fault::NoProgram, at)?;
+    Ok(next)
 }
 
 // 0 or 1.
-pub fn flag(words: &[u64], at: usize) -> Seen
-    ensures { result ≡ seen code.flag (reader.flag words.now at) }
+pub fn flag(words: &[u64], at: usize) -> Result<(usize, bool), Refusal>
+    ensures { result ≡ seen itself (reader.flag words.now at) }
 {
-    most(words, 1, 3, at)
+    let (next, x) = most(words, 1, Fault::NoProgram, at)?;
+    Ok((next, x == 1))
 }
 
-// A variable.
-pub fn variable(words: &[u64], n: usize, at: usize) -> Seen
+// A variable, and how many variables it takes to have it.
+pub fn variable(words: &[u64], n: usize, at: usize) -> Result<(usize, u64), Refusal>
     ensures { result ≡ seen one_more (reader.variable words.now n at) }
 {
-    let any = word(words, at);
-    let Seen::Upto(next, x) = any else {
-        return any;
-    };
+    let (next, x) = word(words, at)?;
     if x < n as u64 {
-        Seen::Upto(next, x + 1)
+        Ok((next, x + 1))
     } else {
-        Seen::Refused(5, at)
+        Err(Fault::NoVariable.at(at))
     }
+}
+
+// As many words as `count` says, each read by `one`. A count past the words ends with them.
+#[tactic(auto, unfolding(crate::specs::Words::after, paper::specs::Reader::many))]
+pub fn many<F: Fn(usize) -> Result<usize, Refusal>>(
+    count: u64,
+    at: usize,
+    one: F,
+) -> Result<usize, Refusal>
+    requires { F.IsAlwaysCallable one }
+    ensures { (read : ℕ → Reading ℕ) → Reads (F.post one) read → result ≡ after (reader.many [] ◌∷◌ read count at) }
+{
+    let mut next = at;
+    for _ in 0..count {
+        next = one(next)?;
+    }
+    Ok(next)
 }

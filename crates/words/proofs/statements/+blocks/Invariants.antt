@@ -1,5 +1,5 @@
 -- The depth falls, and a list stands above its statements, they above what they hold. The statements from the first on read as those from here on, with what was used before.
-use Rattle.std.proofs.Common.{◌≡◌, ◌+◌, ◌*◌}
+use Rattle.std.proofs.Common.{◌≡◌, ◌+◌, ◌*◌, ◌-◌}
 use Rattle.paper.specs.Reader as reader
 use Rattle.paper.specs.Tree.{done, ◌then◌}
 use Rattle.paper.specs.Used.{used as variables_used}
@@ -22,10 +22,7 @@ decreases-statement l = 3 * l.deep + 1
 abbrev pub decreases-while_loop : goal.decreases-while_loop
 decreases-while_loop l = 3 * l.deep
 
-abbrev pub invariant-block-loop-left : goal.invariant-block-loop-left
-invariant-block-loop-left l =
-    seen variables_used (reader.many done ◌then◌ (reader.statement l.words l.n l.deep l.loops) l.count l.first_at)
-    ≡ raised l.top (seen variables_used (reader.many done ◌then◌ (reader.statement l.words l.n l.deep l.loops) l.left l.p))
-
-abbrev pub decreases-block-loop-left : goal.decreases-block-loop-left
-decreases-block-loop-left l = l.left
+abbrev pub invariant-block-loop : goal.invariant-block-loop
+invariant-block-loop l =
+    seen variables_used (reader.many done ◌then◌ (reader.statement l.words l.n l.deep l.loops) l.count l.initial.next)
+    ≡ raised l.most_used (seen variables_used (reader.many done ◌then◌ (reader.statement l.words l.n l.deep l.loops) (l.count - l.counter) l.next))
