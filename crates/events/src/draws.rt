@@ -5,41 +5,32 @@ ghost use Rattle.paper.specs.Rules as rules;
 ghost use Rattle.paper.specs.Tree.{Draw};
 ghost use Rattle.words.specs.Parts.{DrawIs};
 
-use ranges::{End, Range};
+use ranges::Range;
+use words::kinds::DrawKind;
 
 // From a start below an end; an empty interval is Empty.
 fn below(start: u32, end: u32) -> Range
     ensures { result ≡ rules.below start end }
 {
     if start < end {
-        return Range::Span(start, End::At(end - 1));
+        Range::Span(start, Some(end - 1))
+    } else {
+        Range::Empty
     }
-    Range::Empty
 }
 
 // The words are checked: one draw whole, within the limits over n variables.
+#[tactic(auto, unfolding(paper::specs::Limits::DrawIn))]
 pub fn drawn(words: &[u64], n: usize) -> Range
     requires { DrawIs n words.now }
     ensures { (d : Draw) → words.now ≡ code.draw d → result ≡ rules.drawn d }
 {
-    let kind = words[0];
-    if kind == 1 {
-        return ranges::point((words[1] / words[2]) as u32);
+    match DrawKind::of(words[0]).unwrap() {
+        DrawKind::Dirac => Range::point((words[1] / words[2]) as u32),
+        DrawKind::Bernoulli | DrawKind::BernoulliVarProb => Range::Span(0, Some(1)),
+        DrawKind::Binomial => Range::Span(0, Some(words[1] as u32)),
+        DrawKind::Categorical => below(0, words[1] as u32),
+        DrawKind::Uniform => below(words[1] as u32, words[2] as u32),
+        _ => Range::naturals(),
     }
-    if kind == 2 {
-        return Range::Span(0, End::At(1));
-    }
-    if kind == 3 {
-        return Range::Span(0, End::At(1));
-    }
-    if kind == 5 {
-        return Range::Span(0, End::At(words[1] as u32));
-    }
-    if kind == 6 {
-        return below(0, words[1] as u32);
-    }
-    if kind == 12 {
-        return below(words[1] as u32, words[2] as u32);
-    }
-    ranges::naturals()
 }

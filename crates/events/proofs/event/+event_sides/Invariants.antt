@@ -1,21 +1,25 @@
--- The words fall. At each turn the rules say of what is left of the list, from the two sides so far, what they say of the whole.
-use Rattle.std.proofs.Common.{◌≡◌, ◌<◌, length}
+-- The words fall, and a complement stands above its event. At each turn the rules say of what is left of the list, from the two sides so far, what they say of the whole.
+use Rattle.std.proofs.Common.{◌≡◌, ◌+◌, ◌*◌, ◌<◌, length}
+use Rattle.paper.specs.Code as code
+use Rattle.paper.specs.Rules as rules
 use Rattle.paper.specs.Tree.{Events}
-use Rattle.words.specs.Parts.{conjunction}
-use Rattle.events.proofs.Steps.{Going}
+use Rattle.states.specs.States as states
+use Rattle.words.specs.Parts.{Begins, conjunction}
+use Rattle.events.proofs.Steps.{after}
 use Rattle.events.proofs.event.+event_sides.Given as goal
 
 abbrev pub decreases-intersection : goal.decreases-intersection
-decreases-intersection l = length l.words.now
+decreases-intersection l = 2 * length l.part.words.now
+
+abbrev pub decreases-complement : goal.decreases-complement
+decreases-complement l = 2 * length l.part.words.now + 1
 
 abbrev pub decreases-sides : goal.decreases-sides
-decreases-sides l = length l.words.now
+decreases-sides l = 2 * length l.part.words.now
 
-abbrev pub invariant-intersection-loop-left : goal.invariant-intersection-loop-left
-invariant-intersection-loop-left l = record {
+abbrev pub invariant-intersection-loop : goal.invariant-intersection-loop
+invariant-intersection-loop l = record {
   begun : 0 < l.at;
-  going : (es : Events) → l.words ≡ conjunction es → Going l.words l.n l.base l.initial.yes l.left l.at l.yes l.no es;
+  left : (es : Events) → l.part.words.now ≡ conjunction es → Begins l.part.words.now l.at (code.events (after l.counter es));
+  same : (es : Events) → l.part.words.now ≡ conjunction es → rules.events (record { n = l.setting.n; unroll = l.setting.unroll }) (l.part.base + l.at) (after l.counter es) (record { yes = l.yes; no = l.no }) ≡ rules.events (record { n = l.setting.n; unroll = l.setting.unroll }) (l.part.base + 1) es (record { yes = l.state; no = states.empty });
 }
-
-abbrev pub decreases-intersection-loop-left : goal.decreases-intersection-loop-left
-decreases-intersection-loop-left l = l.left
