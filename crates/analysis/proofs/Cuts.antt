@@ -1,17 +1,22 @@
 -- The words of an if, a loop and a normalize, cut into their parts where the code cuts them.
-use mathlib.Core.Path.{◌≡◌, refl, sym, ap, ◌∙◌, subst}
+use mathlib.Core.Path.{◌≡◌, sym, ap, ◌∙◌, subst}
 use mathlib.Core.List.{List}
 use Prim.Native.Nat.{ℕ, ◌+◌, ◌-◌, ◌<◌, ◌≤◌}
 use native.Mathlib.Omega.{arith}
-use lib.ListN.{length, get_or, take, drop}
+use lib.ListN.{length, get_or, take, drop, length-drop}
+use lib.Seq.{take-length}
 use Rattle.paper.specs.Tree.{Unroll, Default, Turns, Event, Statement, IfThenElse, While, Normalize, Statements}
 use Rattle.paper.specs.Code as code
-use Rattle.words.specs.Parts.{Begins, EventAt, ListAt, EventIs, ListIs, StatementIs}
+use Rattle.words.specs.Parts.{Begins, EventAt, ListAt, StatementIs}
 use Rattle.words.proofs.Parts.{begins_whole, begins_at, part_is}
 use Rattle.words.proofs.Nodes.{unroll_of, BranchAt, WhileAt, NormalizeAt, branch_here, while_here, normalize_here, event_some}
-use Rattle.words.proofs.Bounds.{branch_bounds, while_bounds, normalize_bounds}
-use Rattle.paper.specs.Limits.{Each}
-use Rattle.analysis.specs.Loops.{LoopIs, GivenAre}
+use Rattle.words.proofs.Bounds.{while_bounds}
+use Rattle.analysis.specs.Parts.{LoopIs}
+
+-- words that begin with l at p, and end with it
+rest_is : {ws : List ℕ} {p : ℕ} {l : List ℕ} → Begins ws p l → length ws ≡ p + length l → drop p ws ≡ l
+rest_is {ws} {p} h e =
+    sym (take-length (drop p ws)) ∙ ap (λ (k : ℕ). take k (drop p ws)) (simp length-drop (omega arith)) ∙ h.taken
 
 -- an if whose then-list's count stands at p and whose else-list's count stands at q
 pub record BranchCut (ws : List ℕ) (p q : ℕ) (c : Statement) : Type 0 where
@@ -25,7 +30,7 @@ pub record BranchCut (ws : List ℕ) (p q : ℕ) (c : Statement) : Type 0 where
   pub whole : length ws ≡ q + length (code.program else_list)
   pub event_part : take (p - 1) (drop 1 ws) ≡ code.event event
   pub then_part : take (q - p) (drop p ws) ≡ code.program then_list
-  pub else_part : take (length ws - q) (drop q ws) ≡ code.program else_list
+  pub else_part : drop q ws ≡ code.program else_list
 
 module _ (ws : List ℕ) (c : Statement) (is : ws ≡ code.statement c) (kind : get_or ws 0 0 ≡ 4) where
   abbrev branch_shape : BranchAt ws 0 c
@@ -57,23 +62,8 @@ module _ (ws : List ℕ) (c : Statement) (is : ws ≡ code.statement c) (kind : 
           whole = whole;
           event_part = part_is (p - 1) x.event_is (omega arith);
           then_part = part_is (q - p) branch_then.is (omega arith);
-          else_part = part_is (length ws - q) (begins_at (let e : code.else_at 0 x.event x.then_list ≡ q = omega arith in e) x.else_is) (omega arith);
+          else_part = rest_is (begins_at (let e : code.else_at 0 x.event x.then_list ≡ q = omega arith in e) x.else_is) whole;
         }
-
--- the parts of words that are an if
-module _ {n : ℕ} {ws : List ℕ} (h : StatementIs n ws) (kind : get_or ws 0 0 ≡ 4) {p q : ℕ}
-    (ends : (x : Event) → Begins ws 1 (code.event x) → p ≡ 1 + length (code.event x)) (list_ends : (x : Statements) → Begins ws p (code.program x) → q ≡ p + length (code.program x)) where
-  pub branch_inside : BranchCut ws p q h.tree
-  branch_inside = branch_cut ws h.tree h.is kind p ends q list_ends
-
-  pub branch_event_is : EventIs n (take (p - 1) (drop 1 ws))
-  branch_event_is = record { tree = branch_inside.event; is = branch_inside.event_part; within = (branch_bounds branch_inside.same h.within).0 }
-
-  pub branch_then_is : ListIs n (take (q - p) (drop p ws))
-  branch_then_is = record { tree = branch_inside.then_list; is = branch_inside.then_part; within = (branch_bounds branch_inside.same h.within).1 }
-
-  pub branch_else_is : ListIs n (take (length ws - q) (drop q ws))
-  branch_else_is = record { tree = branch_inside.else_list; is = branch_inside.else_part; within = (branch_bounds branch_inside.same h.within).2 }
 
 -- a loop whose body's count stands at p
 pub record LoopCut (ws : List ℕ) (p : ℕ) (e : Event) (b : Statements) : Type 0 where
@@ -81,7 +71,7 @@ pub record LoopCut (ws : List ℕ) (p : ℕ) (e : Event) (b : Statements) : Type
   pub some : 3 < p
   pub whole : length ws ≡ p + length (code.program b)
   pub event_part : take (p - 3) (drop 3 ws) ≡ code.event e
-  pub body_part : take (length ws - p) (drop p ws) ≡ code.program b
+  pub body_part : drop p ws ≡ code.program b
 
 module _ (ws : List ℕ) (u : Unroll) (e : Event) (b : Statements) (is : ws ≡ code.statement (While u e b)) where
   loop_kind : get_or ws 0 0 ≡ 5
@@ -117,7 +107,7 @@ module _ (ws : List ℕ) (u : Unroll) (e : Event) (b : Statements) (is : ws ≡ 
         some = omega (arith, event_some e);
         whole = omega (arith, loop_size);
         event_part = part_is (p - 3) event_here (omega arith);
-        body_part = part_is (length ws - p) (begins_at (sym pe) body_here) (omega (arith, loop_size));
+        body_part = rest_is (begins_at (sym pe) body_here) (omega (arith, loop_size));
       }
 
   pub loop_long : 3 ≤ length ws
@@ -133,17 +123,6 @@ module _ (ws : List ℕ) (u : Unroll) (e : Event) (b : Statements) (is : ws ≡ 
       let k : loop_shape.unroll ≡ u = cc in
       let z : get_or ws 1 0 ≡ 0 = omega (arith, loop_shape.has_most) in
       sym k ∙ loop_shape.unroll_is ∙ ap (λ (i : ℕ). unroll_of i (get_or ws 2 0)) z
-
--- the parts of words that are a loop
-module _ {n : ℕ} {ws : List ℕ} (h : LoopIs n ws) (p : ℕ) (ends : (x : Event) → Begins ws 3 (code.event x) → p ≡ 3 + length (code.event x)) where
-  pub loop_inside : LoopCut ws p h.event h.body
-  loop_inside = loop_cut ws h.unroll h.event h.body h.is p ends
-
-  pub loop_event_is : EventIs n (take (p - 3) (drop 3 ws))
-  loop_event_is = record { tree = h.event; is = loop_inside.event_part; within = h.event_within }
-
-  pub loop_body_is : ListIs n (take (length ws - p) (drop p ws))
-  loop_body_is = record { tree = h.body; is = loop_inside.body_part; within = h.body_within }
 
 -- the words of a statement of kind 5 are a loop
 module _ {n : ℕ} (ws : List ℕ) (h : StatementIs n ws) (kind : get_or ws 0 0 ≡ 5) where
@@ -161,7 +140,7 @@ pub record NormalizeCut (ws : List ℕ) (p : ℕ) (c : Statement) : Type 0 where
   pub p_is : p ≡ 2 + length given
   pub whole : length ws ≡ p + length (code.program body)
   pub given_part : take (p - 2) (drop 2 ws) ≡ given
-  pub body_part : take (length ws - p) (drop p ws) ≡ code.program body
+  pub body_part : drop p ws ≡ code.program body
 
 module _ (ws : List ℕ) (c : Statement) (is : ws ≡ code.statement c) (kind : get_or ws 0 0 ≡ 7) where
   abbrev normalize_shape : NormalizeAt ws 0 c
@@ -182,18 +161,5 @@ module _ (ws : List ℕ) (c : Statement) (is : ws ≡ code.statement c) (kind : 
         p_is = pe;
         whole = whole;
         given_part = part_is (p - 2) x.given_are (omega arith);
-        body_part = part_is (length ws - p) (begins_at (let q : code.normalized_at 0 x.given ≡ p = omega arith in q) x.body_is) (omega arith);
+        body_part = rest_is (begins_at (let q : code.normalized_at 0 x.given ≡ p = omega arith in q) x.body_is) whole;
       }
-
--- the parts of words that are a normalize
-module _ {n : ℕ} {ws : List ℕ} (h : StatementIs n ws) (kind : get_or ws 0 0 ≡ 7) where
-  pub normalize_inside : NormalizeCut ws (get_or ws 1 0 + 2) h.tree
-  normalize_inside = normalize_cut ws h.tree h.is kind (get_or ws 1 0 + 2) refl
-
-  pub normalize_given_are : GivenAre n (take (get_or ws 1 0 + 2 - 2) (drop 2 ws))
-  normalize_given_are =
-      let k = normalize_inside in
-      record { each = subst (λ (l : List ℕ). Each (λ v. v < n) l) (sym k.given_part) (normalize_bounds k.same h.within).1 }
-
-  pub normalize_body_is : ListIs n (take (length ws - (get_or ws 1 0 + 2)) (drop (get_or ws 1 0 + 2) ws))
-  normalize_body_is = let k = normalize_inside in record { tree = k.body; is = k.body_part; within = (normalize_bounds k.same h.within).2 }

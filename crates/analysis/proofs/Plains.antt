@@ -1,183 +1,168 @@
--- Plain statements in words: how long they are, what each word is, and the bounds on it.
-use mathlib.Core.Path.{◌≡◌, refl, sym, ap, ◌∙◌, subst}
-use mathlib.Core.Bool.{Bool}
-use mathlib.Core.List.{List, ◌∷◌}
-use Prim.Native.Nat.{ℕ, zero, suc, ◌+◌, ◌-◌, ◌<◌, ◌≤◌}
+-- What the rules make of a plain statement, by its words.
+use mathlib.Core.Path.{◌≡◌, refl, sym, ap, ◌∙◌}
+use mathlib.Core.Bool.{true, false, false≢true, cond}
+use mathlib.Core.List.{List}
+use Prim.Native.Nat.{ℕ, ◌<◌, ◌≤◌}
 use native.Mathlib.Omega.{arith}
 use lib.Dec.{eqb}
-use lib.ListN.{length, get_or, take, drop}
-use Rattle.ranges.specs.declared.Bounded.{Bounded}
-use Rattle.ranges.specs.declared.Bounded.TheVariants.{Is}
+use lib.ListN.{get_or, drop}
+use Rattle.std.specs.Prelude.{Option, Some, None}
 use Rattle.ranges.specs.declared.Range.{Range}
 use Rattle.ranges.specs.Ranges as ranges
-use Rattle.paper.specs.Tree.{Addend, Nought, Times, Statement, Sample, Assign, Decrement, IfThenElse, While, Fail, Normalize}
+use Rattle.states.specs.declared.State.{State}
+use Rattle.states.specs.declared.State.TheVariants as state
+use Rattle.states.specs.Answers.{Answer, Gives, Refuses}
+use Rattle.states.specs.States as states
+use Rattle.paper.specs.Tree.{Draw, Bernoulli, Nought, Times, Statement, Sample, Assign, Decrement, IfThenElse, While, Fail, Normalize}
 use Rattle.paper.specs.Code as code
 use Rattle.paper.specs.Rules as rules
-use Rattle.paper.specs.Limits.{AddendIn}
-use Rattle.words.specs.Parts.{Begins, StatementWithin, StatementIs, DrawIs}
-use Rattle.words.proofs.Parts.{begins_whole, begins_head, part_is}
-use Rattle.words.proofs.Nodes.{begins_second, addend_of, SampleAt, AssignAt, DecrementAt, sample_here, assign_here, decrement_here, statement_kind, draw_some, statement_some}
-use Rattle.words.proofs.Bounds.{sample_bounds, assign_bounds, decrement_bounds}
-use Rattle.analysis.specs.Plain as plain
+use Rattle.paper.specs.Rules.{Setting}
+use Rattle.paper.specs.Limits.{DrawIn, AddendIn}
+use Rattle.words.specs.Parts.{StatementIs, StatementWithin, DrawIs}
+use Rattle.words.proofs.Bounds.{sample_bounds, assign_bounds}
 
--- a statement's code begins with its kind word
-tail_of : Statement → List ℕ
-tail_of c = drop 1 (code.statement c)
+-- the word of a statement at an index
+abbrev pub word : Statement → ℕ → ℕ
+word c i = get_or (code.statement c) i 0
 
-kind_first : (c : Statement) → code.statement c ≡ (plain.kind c ∷ tail_of c)
-unfolding code.statement tail_of
-kind_first (Sample v add d) = refl
-kind_first (Assign v add Nought k) = refl
-kind_first (Assign v add (Times f w) k) = refl
-kind_first (Decrement v k) = refl
-kind_first (IfThenElse e t f) = refl
-kind_first (While u e b) = refl
-kind_first Fail = refl
-kind_first (Normalize vs b) = refl
+-- the draw of a sample; another where there is none
+abbrev pub draw : Statement → Draw
+draw (Sample v add d) = d
+draw (Assign v add x offset) = Bernoulli
+draw (Decrement v offset) = Bernoulli
+draw (IfThenElse e t f) = Bernoulli
+draw (While u e b) = Bernoulli
+draw Fail = Bernoulli
+draw (Normalize vs b) = Bernoulli
 
-pub begins_kind : {ws : List ℕ} {at : ℕ} (c : Statement) → Begins ws at (code.statement c) → get_or ws at 0 ≡ plain.kind c
-begins_kind {ws} {at} c h = begins_head (subst (λ (l : List ℕ). Begins ws at l) (kind_first c) h)
-
--- and a plain one's second word is the variable that it changes
-pub begins_target : {ws : List ℕ} {at : ℕ} (c : Statement) → Begins ws at (code.statement c) → plain.kind c < 4 → get_or ws (at + 1) 0 ≡ plain.target c
+pub draw_words : (c : Statement) → word c 0 ≡ 1 → drop 3 (code.statement c) ≡ code.draw (draw c)
 unfolding code.statement
-begins_target (Sample v add d) h k = begins_second h
-begins_target (Assign v add Nought offset) h k = begins_second h
-begins_target (Assign v add (Times factor w) offset) h k = begins_second h
-begins_target (Decrement v offset) h k = begins_second h
-begins_target (IfThenElse e t f) h k = absurd (omega arith)
-begins_target (While u e b) h k = absurd (omega arith)
-begins_target Fail h k = absurd (omega arith)
-begins_target (Normalize vs b) h k = absurd (omega arith)
+draw_words (Sample v add d) k = refl
+draw_words (Assign v add x offset) k = absurd (omega arith)
+draw_words (Decrement v offset) k = absurd (omega arith)
+draw_words (IfThenElse e t f) k = absurd (omega arith)
+draw_words (While u e b) k = absurd (omega arith)
+draw_words Fail k = absurd (omega arith)
+draw_words (Normalize vs b) k = absurd (omega arith)
 
--- the shapes of a statement's words, by its kind word
-module _ (ws : List ℕ) (c : Statement) (e : ws ≡ code.statement c) where
-  pub a_sample : get_or ws 0 0 ≡ 1 → SampleAt ws 0 c
-  a_sample k = sample_here c (begins_whole e) k
-
-  pub an_assign : get_or ws 0 0 ≡ 2 → AssignAt ws 0 c
-  an_assign k = assign_here c (begins_whole e) k
-
-  pub a_decrement : get_or ws 0 0 ≡ 3 → DecrementAt ws 0 c
-  a_decrement k = decrement_here c (begins_whole e) k
-
-  size : length ws ≡ length (code.statement c)
-  size = ap length e
-
-  pub has_first : 0 < length ws
-  has_first = omega (arith, size, statement_some c)
-
-  pub assign_long : get_or ws 0 0 ≡ 2 → length ws ≡ 7
-  assign_long k = size ∙ (an_assign k).size
-
-  pub sample_long : get_or ws 0 0 ≡ 1 → 3 < length ws
-  sample_long k = omega (arith, size, (a_sample k).size, draw_some (a_sample k).draw)
-
-  pub plain_long : get_or ws 0 0 < 4 → 3 ≤ length ws
-  plain_long k = go (get_or ws 0 0) refl (statement_kind c (begins_whole e)).0 k
-    where
-      go : (kind : ℕ) → get_or ws 0 0 ≡ kind → 0 < get_or ws 0 0 → get_or ws 0 0 < 4 → 3 ≤ length ws
-      go zero q some few = absurd (omega arith)
-      go (suc zero) q some few = omega (arith, sample_long q)
-      go (suc (suc zero)) q some few = omega (arith, assign_long q)
-      go (suc (suc (suc zero))) q some few = omega (arith, size, (a_decrement q).size)
-      go (suc (suc (suc (suc k)))) q some few = absurd (omega arith)
-
-  pub only_assign : get_or ws 0 0 < 4 → (get_or ws 0 0 ≡ 3 → ⊥) → (get_or ws 0 0 ≡ 1 → ⊥) → get_or ws 0 0 ≡ 2
-  only_assign k a b = omega (arith, (statement_kind c (begins_whole e)).0)
-
-  -- its kind word says whether it is plain
-  pub plain_kind : plain.kind c ≡ get_or ws 0 0
-  plain_kind = sym (begins_head (subst (λ (l : List ℕ). Begins ws 0 l) (kind_first c) (begins_whole e)))
-
-  -- what the code takes for the variable that it reads, and for its change
-  pub reads_another : get_or ws 0 0 ≡ 2 → get_or ws 3 0 ≡ 1 → get_or ws 5 0 ≡ plain.source c
-  reads_another k h =
-      let x = an_assign k in
-      let y : x.addend ≡ Times (get_or ws 4 0) (get_or ws 5 0) = x.addend_is ∙ ap (λ (i : ℕ). addend_of i (get_or ws 4 0) (get_or ws 5 0)) h in
-      sym (ap plain.source x.same ∙ ap (plain.read_by x.var) y)
-
-  pub reads_own : get_or ws 0 0 < 4 → (get_or ws 0 0 ≡ 2 → get_or ws 3 0 ≡ 1 → ⊥) → get_or ws 1 0 ≡ plain.source c
-  reads_own k h = go (get_or ws 0 0) refl (statement_kind c (begins_whole e)).0 k h
-    where
-      go : (kind : ℕ) → get_or ws 0 0 ≡ kind → 0 < get_or ws 0 0 → get_or ws 0 0 < 4 → (get_or ws 0 0 ≡ 2 → get_or ws 3 0 ≡ 1 → ⊥) → get_or ws 1 0 ≡ plain.source c
-      go zero q some few h = absurd (omega arith)
-      go (suc zero) q some few h = let x = a_sample q in x.var_is ∙ ap plain.source (sym x.same)
-      go (suc (suc zero)) q some few h =
-          let x = an_assign q in
-          let ne : get_or ws 3 0 ≡ 1 → ⊥ = h q in
-          let z : get_or ws 3 0 ≡ 0 = omega (arith, x.has_most) in
-          let y : x.addend ≡ Nought = x.addend_is ∙ ap (λ (i : ℕ). addend_of i (get_or ws 4 0) (get_or ws 5 0)) z in
-          x.var_is ∙ sym (ap plain.source x.same ∙ ap (plain.read_by x.var) y)
-      go (suc (suc (suc zero))) q some few h = let x = a_decrement q in x.var_is ∙ ap plain.source (sym x.same)
-      go (suc (suc (suc (suc k)))) q some few h = absurd (omega arith)
-
-  module _ (own read : Range) where
-    pub decrement_change : get_or ws 0 0 ≡ 3 → Is (ranges.less own (get_or ws 2 0)) ≡ plain.change c own read
-    decrement_change k = let x = a_decrement k in rw x.offset_is (ap (λ (d : Statement). plain.change d own read) (sym x.same))
-
-    pub sample_change : (k : get_or ws 0 0 ≡ 1) (drawn : Range) → drawn ≡ rules.drawn (a_sample k).draw → Is (ranges.sum (plain.kept (eqb (get_or ws 2 0) 1) own) drawn) ≡ plain.change c own read
-    sample_change k drawn h = let x = a_sample k in rw (← x.add_is, h) (ap (λ (d : Statement). plain.change d own read) (sym x.same))
-
-    pub assign_change : (k : get_or ws 0 0 ≡ 2) (product : Bounded) → product ≡ plain.product (addend_of (get_or ws 3 0) (get_or ws 4 0) (get_or ws 5 0)) read →
-        plain.summed (plain.kept (eqb (get_or ws 2 0) 1) own) (get_or ws 6 0) product ≡ plain.change c own read
-    assign_change k product h =
-        let x = an_assign k in
-        let y : product ≡ plain.product x.addend read = h ∙ ap (λ (a : Addend). plain.product a read) (sym x.addend_is) in
-        rw (x.offset_is, ← x.add_is, y) (ap (λ (d : Statement). plain.change d own read) (sym x.same))
+draw_within : {n : ℕ} (c : Statement) → StatementWithin n c → word c 0 ≡ 1 → DrawIn n (draw c)
+unfolding code.statement
+draw_within (Sample v add d) w k = (sample_bounds refl w).1
+draw_within (Assign v add x offset) w k = absurd (omega arith)
+draw_within (Decrement v offset) w k = absurd (omega arith)
+draw_within (IfThenElse e t f) w k = absurd (omega arith)
+draw_within (While u e b) w k = absurd (omega arith)
+draw_within Fail w k = absurd (omega arith)
+draw_within (Normalize vs b) w k = absurd (omega arith)
 
 -- the draw of a sample is a part of its words
-module _ {n : ℕ} (ws : List ℕ) (h : StatementIs n ws) (k : get_or ws 0 0 ≡ 1) where
-  pub draw_part : DrawIs n (take (length ws - 3) (drop 3 ws))
-  draw_part =
-      let x = a_sample ws h.tree h.is k in
-      record {
-        tree = x.draw;
-        is = part_is (length ws - 3) x.draw_is (omega (arith, ap length h.is, x.size));
-        within = (sample_bounds x.same h.within).1;
-      }
+pub draw_part : {n : ℕ} {ws : List ℕ} → StatementIs n ws → get_or ws 0 0 ≡ 1 → DrawIs n (drop 3 ws)
+draw_part {n} {ws} h k = record { tree = draw h.tree; is = ap (drop 3) h.is ∙ draw_words h.tree first; within = draw_within h.tree h.within first }
+  where
+    first : word h.tree 0 ≡ 1
+    first = sym (ap (λ (l : List ℕ). get_or l 0 0) h.is) ∙ k
 
--- the words that the code casts to 32 bits
-module _ {n : ℕ} (ws : List ℕ) (h : StatementIs n ws) where
-  pub decrement_small : get_or ws 0 0 ≡ 3 → get_or ws 2 0 ≤ ranges.top
-  decrement_small k = let x = a_decrement ws h.tree h.is k in omega (arith, x.offset_is, (decrement_bounds x.same h.within).1)
+-- the factor of an assign; with no addend its word is 0
+factor_within : {n : ℕ} (c : Statement) → StatementWithin n c → word c 0 ≡ 2 → word c 4 ≤ ranges.top
+unfolding code.statement AddendIn
+factor_within (Assign v add Nought offset) w k = omega arith
+factor_within (Assign v add (Times factor x) offset) w k = (assign_bounds refl w).1.0
+factor_within (Sample v add d) w k = absurd (omega arith)
+factor_within (Decrement v offset) w k = absurd (omega arith)
+factor_within (IfThenElse e t f) w k = absurd (omega arith)
+factor_within (While u e b) w k = absurd (omega arith)
+factor_within Fail w k = absurd (omega arith)
+factor_within (Normalize vs b) w k = absurd (omega arith)
 
-  pub offset_small : get_or ws 0 0 ≡ 2 → get_or ws 6 0 ≤ ranges.top
-  offset_small k = let x = an_assign ws h.tree h.is k in omega (arith, x.offset_is, (assign_bounds x.same h.within).2)
+pub factor_small : {n : ℕ} {ws : List ℕ} → StatementIs n ws → get_or ws 0 0 ≡ 2 → get_or ws 4 0 ≤ ranges.top
+factor_small h k =
+    rw h.is (factor_within h.tree h.within (sym (ap (λ (l : List ℕ). get_or l 0 0) h.is) ∙ k))
 
-  -- with no addend the factor's word is 0
-  factor_word : (v k : ℕ) (add : Bool) (x : Addend) → AddendIn n x → get_or (code.statement (Assign v add x k)) 4 0 ≤ ranges.top
-  unfolding code.statement AddendIn
-  factor_word v k add Nought a = omega arith
-  factor_word v k add (Times factor w) a = a.0
+module _ (g : Setting) (at : ℕ) (s : State) where
+  -- an empty state stays as it is
+  put_dead : (v : ℕ) (r : Range) → states.is_live s ≡ false → states.put s v r ≡ s
+  put_dead v r e = go s e
+    where
+      go : (t : State) → states.is_live t ≡ false → states.put t v r ≡ t
+      go state.Empty e = refl
+      go (state.Live cs) e = absurd (false≢true (sym e))
 
-  pub factor_small : get_or ws 0 0 ≡ 2 → get_or ws 4 0 ≤ ranges.top
-  factor_small k =
-      let x = an_assign ws h.tree h.is k in
-      let e : ws ≡ code.statement (Assign x.var x.add x.addend x.offset) = h.is ∙ ap code.statement x.same in
-      subst (λ (l : List ℕ). get_or l 4 0 ≤ ranges.top) (sym e) (factor_word x.var x.offset x.add x.addend (assign_bounds x.same h.within).1)
+  pub dead_rule : (c : Statement) → word c 0 < 4 → states.is_live s ≡ false → rules.statement g at c s ≡ Gives s
+  unfolding code.statement rules.statement
+  dead_rule (Sample v add d) k e = ap Gives (put_dead v _ e)
+  dead_rule (Assign v add x offset) k e = by (rules.scaled s x)
+    where
+      by : (b : Option Range) → rules.assigned at s v add offset b ≡ Gives s
+      by (Some r) = ap Gives (put_dead v _ e)
+      by None = rw e
+  dead_rule (Decrement v offset) k e = ap Gives (put_dead v _ e)
+  dead_rule (IfThenElse e t f) k d = absurd (omega arith)
+  dead_rule (While u e b) k d = absurd (omega arith)
+  dead_rule Fail k d = absurd (omega arith)
+  dead_rule (Normalize vs b) k d = absurd (omega arith)
 
--- a plain statement's variables are below n
-module _ {n : ℕ} where
-  addend_below : (v : ℕ) (x : Addend) → v < n → AddendIn n x → plain.read_by v x < n
-  unfolding AddendIn
-  addend_below v Nought b a = b
-  addend_below v (Times factor w) b a = a.1
+  -- what a draw or an assign begins with, by its words
+  abbrev pub begun : Statement → Range
+  begun c = cond (eqb (word c 2) 1) (states.get s (word c 1)) (ranges.point 0)
 
-  pub target_below : (c : Statement) → StatementWithin n c → plain.kind c < 4 → plain.target c < n
-  target_below (Sample v add d) w k = (sample_bounds refl w).0
-  target_below (Assign v add x offset) w k = (assign_bounds refl w).0
-  target_below (Decrement v offset) w k = (decrement_bounds refl w).0
-  target_below (IfThenElse e t f) w k = absurd (omega arith)
-  target_below (While u e b) w k = absurd (omega arith)
-  target_below Fail w k = absurd (omega arith)
-  target_below (Normalize vs b) w k = absurd (omega arith)
+  pub sample_rule : (c : Statement) → word c 0 ≡ 1 → rules.statement g at c s ≡ Gives (states.put s (word c 1) (ranges.sum (begun c) (rules.drawn (draw c))))
+  unfolding code.statement rules.statement
+  sample_rule (Sample v true d) k = refl
+  sample_rule (Sample v false d) k = refl
+  sample_rule (Assign v add x offset) k = absurd (omega arith)
+  sample_rule (Decrement v offset) k = absurd (omega arith)
+  sample_rule (IfThenElse e t f) k = absurd (omega arith)
+  sample_rule (While u e b) k = absurd (omega arith)
+  sample_rule Fail k = absurd (omega arith)
+  sample_rule (Normalize vs b) k = absurd (omega arith)
 
-  pub source_below : (c : Statement) → StatementWithin n c → plain.kind c < 4 → plain.source c < n
-  source_below (Sample v add d) w k = (sample_bounds refl w).0
-  source_below (Assign v add x offset) w k = addend_below v x (assign_bounds refl w).0 (assign_bounds refl w).1
-  source_below (Decrement v offset) w k = (decrement_bounds refl w).0
-  source_below (IfThenElse e t f) w k = absurd (omega arith)
-  source_below (While u e b) w k = absurd (omega arith)
-  source_below Fail w k = absurd (omega arith)
-  source_below (Normalize vs b) w k = absurd (omega arith)
+  -- the factor times the range of w, by its words
+  abbrev pub scaled : Statement → Option Range
+  scaled c = cond (eqb (word c 3) 0) (Some (ranges.point 0)) (ranges.times (states.get s (word c 5)) (word c 4))
+
+  assigned_by : Statement → Option Range → Answer State
+  assigned_by c (Some product) = Gives (states.put s (word c 1) (ranges.sum (ranges.sum (begun c) product) (ranges.point (word c 6))))
+  assigned_by c None = cond (states.is_live s) (Refuses 8 at) (Gives s)
+
+  assign_rule : (c : Statement) → word c 0 ≡ 2 → rules.statement g at c s ≡ assigned_by c (scaled c)
+  unfolding code.statement rules.statement assigned_by
+  assign_rule (Assign v true Nought offset) k = refl
+  assign_rule (Assign v false Nought offset) k = refl
+  assign_rule (Assign v true (Times factor w) offset) k = by (ranges.times (states.get s w) factor)
+    where
+      by : (b : Option Range) → rules.assigned at s v true offset b ≡ assigned_by (Assign v true (Times factor w) offset) b
+      by (Some r) = refl
+      by None = refl
+  assign_rule (Assign v false (Times factor w) offset) k = by (ranges.times (states.get s w) factor)
+    where
+      by : (b : Option Range) → rules.assigned at s v false offset b ≡ assigned_by (Assign v false (Times factor w) offset) b
+      by (Some r) = refl
+      by None = refl
+  assign_rule (Sample v add d) k = absurd (omega arith)
+  assign_rule (Decrement v offset) k = absurd (omega arith)
+  assign_rule (IfThenElse e t f) k = absurd (omega arith)
+  assign_rule (While u e b) k = absurd (omega arith)
+  assign_rule Fail k = absurd (omega arith)
+  assign_rule (Normalize vs b) k = absurd (omega arith)
+
+  pub assign_on : {product : Range} (c : Statement) → word c 0 ≡ 2 → scaled c ≡ Some product → rules.statement g at c s ≡ Gives (states.put s (word c 1) (ranges.sum (ranges.sum (begun c) product) (ranges.point (word c 6))))
+  unfolding assigned_by
+  assign_on c k e = assign_rule c k ∙ ap (assigned_by c) e
+
+  pub assign_over : (c : Statement) → word c 0 ≡ 2 → scaled c ≡ None → states.is_live s ≡ true → rules.statement g at c s ≡ Refuses 8 at
+  unfolding assigned_by
+  assign_over c k e live = assign_rule c k ∙ ap (assigned_by c) e ∙ over
+    where
+      over : assigned_by c None ≡ Refuses 8 at
+      over = rw live
+
+  pub decrement_rule : (c : Statement) → word c 0 < 4 → (word c 0 ≡ 1 → ⊥) → (word c 0 ≡ 2 → ⊥) → rules.statement g at c s ≡ Gives (states.put s (word c 1) (ranges.less (states.get s (word c 1)) (word c 2)))
+  unfolding code.statement rules.statement
+  decrement_rule (Decrement v offset) k a b = refl
+  decrement_rule (Sample v add d) k a b = absurd (a refl)
+  decrement_rule (Assign v add Nought offset) k a b = absurd (b refl)
+  decrement_rule (Assign v add (Times factor w) offset) k a b = absurd (b refl)
+  decrement_rule (IfThenElse e t f) k a b = absurd (omega arith)
+  decrement_rule (While u e w) k a b = absurd (omega arith)
+  decrement_rule Fail k a b = absurd (omega arith)
+  decrement_rule (Normalize vs w) k a b = absurd (omega arith)

@@ -1,277 +1,206 @@
 -- The ways of the walk's functions, put together at the places that the code has.
 use mathlib.Core.Path.{◌≡◌, refl, sym, ap, ◌∙◌, subst}
-use mathlib.Core.Bool.{true, false, cond}
-use mathlib.Core.List.{List}
-use Prim.Native.Nat.{ℕ, ◌+◌, ◌-◌, ◌<◌, ◌≤◌}
+use mathlib.Core.Bool.{Bool, true, false, cond}
+use mathlib.Core.List.{List, [], ◌∷◌, ◌++◌}
+use Prim.Native.Nat.{ℕ, ◌+◌, ◌<◌, ◌≤◌}
 use native.Mathlib.Omega.{arith}
-use lib.ListN.{length, get_or, take, drop, set}
-use Rattle.ranges.specs.declared.Bounded.{Bounded}
-use Rattle.ranges.specs.declared.Bounded.TheVariants.{Is, Over}
-use Rattle.ranges.specs.declared.Range.{Range}
-use Rattle.states.specs.declared.Cell.{Cell}
+use lib.ListN.{length, get_or, set}
+use Rattle.std.specs.Prelude.{Result, Ok, Err}
+use Rattle.states.specs.declared.Refusal.{Refusal}
 use Rattle.states.specs.declared.State.{State}
-use Rattle.states.specs.declared.Verdict.TheVariants.{Good, Refused}
-use Rattle.states.specs.declared.Answer as code_answer
-use Rattle.states.specs.Answers.{Gives, Refuses, answered}
+use Rattle.states.specs.Answers.{Answer, Gives, Refuses}
 use Rattle.states.specs.States as states
-use Rattle.states.proofs.Cells.{there}
 use Rattle.paper.specs.Code as code
 use Rattle.paper.specs.Rules as rules
 use Rattle.paper.specs.Rules.{Setting}
-use Rattle.paper.specs.Tree.{Event, Statement, IfThenElse, Fail, Statements, ◌then◌}
-use Rattle.words.specs.Parts.{Begins, ListWithin, StatementWithin, StatementIs}
-use Rattle.words.proofs.Parts.{begins_whole, begins_at, begins_tail, part_is}
-use Rattle.words.proofs.Nodes.{NextAt, next_here, statement_kind, statement_some, fail_here, done_here, statement_ends}
-use Rattle.words.proofs.Bounds.{next_bounds}
-use Rattle.events.specs.declared.Sides.{Sides}
+use Rattle.paper.specs.Trace as trace
+use Rattle.paper.specs.Tree.{Event, Statement, Sample, Assign, Decrement, IfThenElse, While, Fail, Normalize, Statements, done, ◌then◌}
 use Rattle.events.specs.Sided.{sided}
-use Rattle.events.proofs.Steps.{sides_given, sides_refused}
-use Rattle.analysis.specs.Outcomes.{passed}
+use Rattle.events.specs.declared.Sides.{Sides}
+use Rattle.analysis.specs.Outcomes.{answer_by}
+use Rattle.analysis.specs.declared.parts.Branch.{Branch}
+use Rattle.analysis.specs.declared.parts.Loop.{Loop}
+use Rattle.analysis.specs.Parts.{BranchOf, LoopAt}
+use Rattle.words.specs.Parts.{Begins, ListWithin, StatementAt, StatementIs}
+use Rattle.words.proofs.Parts.{begins_at}
+use Rattle.words.proofs.Nodes.{NextAt, next_here, statement_some, done_here, statement_ends}
+use Rattle.words.proofs.Bounds.{next_bounds}
 use Rattle.analysis.specs.Noted as noted
-use Rattle.analysis.specs.Noted.{Noted, Says}
-use Rattle.analysis.specs.Plain as plain
-use Rattle.analysis.proofs.Says.{Leads, leads_self, leads_then}
-use Rattle.analysis.proofs.Steps as steps
-use Rattle.analysis.proofs.Turns as turns
-use Rattle.analysis.proofs.Plains.{plain_kind, plain_long, begins_kind, begins_target, target_below, source_below}
-use Rattle.analysis.proofs.Cuts.{BranchCut, LoopCut, NormalizeCut}
-use Rattle.analysis.proofs.Given.{normalize_is}
+use Rattle.analysis.specs.Noted.{Noted, then_noted, from, ending, Says}
+use Rattle.analysis.proofs.Says.{Leads, leads_self, leads_then, says_plain, from_good, from_refused, then_good, then_refused, ending_good, ending_refused}
 
-pub kind_below : {a b : ℕ} → a ≡ b → a < 4 → b < 4
-kind_below e h = omega arith
+-- ---- a block
 
--- the marks after a list at a place is entered from a state
-abbrev pub marked : State → ℕ → List ℕ → List ℕ
-marked s at m = cond s.live (set m at 1) m
+entered_if : (b : Bool) (at : ℕ) (x : Noted State) (m : List ℕ) → Leads (record { answer = x.answer; places = cond b (at ∷ []) [] ++ x.places }) m x (cond b (set m at 1) m)
+unfolding trace.mark
+entered_if true at x m = record { on = λ q. record { out = q.out; marks = q.marks } }
+entered_if false at x m = leads_self
 
--- a block that the code marks and goes over at its own place
-pub block_at : (g : Setting) (at place : ℕ) (t : Statements) (s : State) (r : code_answer.Answer) (m m₁ m₂ : List ℕ) → place ≡ at → m₁ ≡ marked s place m →
-    Says answered (noted.list g (place + 1) t s) r m₁ m₂ → Says answered (noted.block g at t s) r m m₂
-block_at g at place t s r m m₁ m₂ e q h =
-    subst (λ (i : ℕ). Says answered (noted.block g i t s) r m m₂) e
-    ((steps.entered_block g place t s m).on r m₂ (subst (λ (l : List ℕ). Says answered (noted.list g (place + 1) t s) r l m₂) q h))
+-- the marks after it is entered, by whether its state is not empty
+pub entered_so : (s : State) (at : ℕ) (m : List ℕ) {m₁ : List ℕ} (live : Bool) → states.is_live s ≡ live → m₁ ≡ cond live (set m at 1) m → m₁ ≡ cond (states.is_live s) (set m at 1) m
+entered_so s at m live e q = q ∙ ap (λ (b : Bool). cond b (set m at 1) m) (sym e)
 
--- ---- an if
-
-module _ (g : Setting) (base : ℕ) {ws : List ℕ} {p q : ℕ} {c : Statement} (k : BranchCut ws p q c) (s : State) (o : Sides) (sides : o ≡ sided (rules.event g (base + 1) k.event s)) (m : List ℕ) where
-  abbrev an_if : Statement
-  an_if = IfThenElse k.event k.then_list k.else_list
-
-  abbrev two : rules.Sides
-  two = record { yes = o.yes; no = o.no }
-
-  is_if : (r : code_answer.Answer) (m₁ : List ℕ) → Says answered (noted.statement g base an_if s) r m m₁ → Says answered (noted.statement g base c s) r m m₁
-  is_if r m₁ h = subst (λ (d : Statement). Says answered (noted.statement g base d s) r m m₁) (sym k.same) h
-
-  pub if_unsplit : {number place : ℕ} → o.verdict ≡ Refused number place → Says answered (noted.statement g base c s) (answered (Refuses number place)) m m
-  if_unsplit {number} {place} v = is_if (answered (Refuses number place)) m
-      (steps.branch_refused g base s k.event k.then_list k.else_list m (sides_refused (rules.event g (base + 1) k.event s) sides v))
-
-  module _ (good : o.verdict ≡ Good) {m₁ m₂ : List ℕ} (entered : m₁ ≡ marked o.yes (base + p) m) {a : code_answer.Answer} (went : Says answered (noted.list g (base + p + 1) k.then_list o.yes) a m₁ m₂) where
-    split : Leads answered (noted.statement g base an_if s) m (steps.branches g base s k.event k.then_list k.else_list two) m
-    split = steps.branch_split g base s k.event k.then_list k.else_list m (sides_given (rules.event g (base + 1) k.event s) sides good)
-
-    then_block : Says answered (noted.block g (code.then_at base k.event) k.then_list o.yes) a m m₂
-    then_block = block_at g (code.then_at base k.event) (base + p) k.then_list o.yes a m m₁ m₂ (omega (arith, k.p_is)) entered went
-
-    pub if_then_refused : {number place : ℕ} → a.verdict ≡ Refused number place → Says answered (noted.statement g base c s) a m m₂
-    if_then_refused v = is_if a m₂ (split.on a m₂ (steps.then_refused g base s k.event k.then_list k.else_list two then_block v))
-
-    module _ (then_good : a.verdict ≡ Good) {m₃ m₄ : List ℕ} (entered_else : m₃ ≡ marked o.no (base + q) m₂) {b : code_answer.Answer} (went_else : Says answered (noted.list g (base + q + 1) k.else_list o.no) b m₃ m₄) where
-      else_block : Says answered (noted.block g (code.else_at base k.event k.then_list) k.else_list o.no) b m₂ m₄
-      else_block = block_at g (code.else_at base k.event k.then_list) (base + q) k.else_list o.no b m₂ m₃ m₄ (omega (arith, k.p_is, k.q_is)) entered_else went_else
-
-      on_else : Leads answered (noted.statement g base an_if s) m (steps.otherwise g base s k.event k.then_list k.else_list two a.state) m₂
-      on_else = leads_then split (steps.then_on g base s k.event k.then_list k.else_list two then_block then_good)
-
-      pub if_else_refused : {number place : ℕ} → b.verdict ≡ Refused number place → Says answered (noted.statement g base c s) b m m₄
-      if_else_refused v = is_if b m₄ (on_else.on b m₄ (steps.else_refused g base s k.event k.then_list k.else_list two a.state else_block v))
-
-      pub if_joined : b.verdict ≡ Good → Says answered (noted.statement g base c s) (answered (Gives (states.join g.n a.state b.state))) m m₄
-      if_joined v = is_if (answered (Gives (states.join g.n a.state b.state))) m₄
-          (on_else.on (answered (Gives (states.join g.n a.state b.state))) m₄ (steps.else_on g base s k.event k.then_list k.else_list two a.state else_block v))
-
--- ---- a pass
-
-module _ (g : Setting) (base : ℕ) {ws : List ℕ} {p : ℕ} (e : Event) (b : Statements) (k : LoopCut ws p e b) (s : State) (o : Sides) (sides : o ≡ sided (rules.event g (base + 3) e s)) (m : List ℕ) where
-  pub pass_unsplit : {number place : ℕ} → o.verdict ≡ Refused number place → Says passed (noted.pass g base e b s) (passed (Refuses number place)) m m
-  pass_unsplit v = turns.pass_refused g base e b s m (sides_refused (rules.event g (base + 3) e s) sides v)
-
-  pub left_good : o.verdict ≡ Good → answered (Gives o.no) ≡ answered (noted.exit_by g base e b s)
-  left_good v = rw (sides_given (rules.event g (base + 3) e s) sides v)
-
-  pub left_refused : {number place : ℕ} → o.verdict ≡ Refused number place → answered (Refuses number place) ≡ answered (noted.exit_by g base e b s)
-  left_refused v = rw (sides_refused (rules.event g (base + 3) e s) sides v)
-
-  module _ (good : o.verdict ≡ Good) {m₁ m₂ : List ℕ} (entered : m₁ ≡ marked o.yes (base + p) m) {a : code_answer.Answer} (went : Says answered (noted.list g (base + p + 1) b o.yes) a m₁ m₂) where
-    abbrev halves : rules.Sides
-    halves = record { yes = o.yes; no = o.no }
-
-    body_block : Says answered (noted.block g (code.body_at base e) b o.yes) a m m₂
-    body_block = block_at g (code.body_at base e) (base + p) b o.yes a m m₁ m₂ (omega (arith, k.p_is)) entered went
-
-    pass_on : Leads passed (noted.pass g base e b s) m (turns.body_of g base e b halves) m
-    pass_on = turns.pass_split g base e b s m (sides_given (rules.event g (base + 3) e s) sides good)
-
-    pub pass_body_refused : {number place : ℕ} → a.verdict ≡ Refused number place → Says passed (noted.pass g base e b s) (passed (Refuses number place)) m m₂
-    pass_body_refused {number} {place} v = pass_on.on (passed (Refuses number place)) m₂ (turns.body_refused g base e b halves body_block v)
-
-    pub pass_went : a.verdict ≡ Good → Says passed (noted.pass g base e b s) (passed (Gives (record { next = a.state; exit = o.no }))) m m₂
-    pass_went v = pass_on.on (passed (Gives (record { next = a.state; exit = o.no }))) m₂ (turns.body_on g base e b halves body_block v)
-
--- ---- a normalize and a fail
-
-pub normalize_whole : (g : Setting) (base : ℕ) {ws : List ℕ} {p : ℕ} {c : Statement} (k : NormalizeCut ws p c) (s : State) {r : code_answer.Answer} {m m₁ : List ℕ} →
-    Says answered (noted.normalized g (base + 2) (take (p - 2) (drop 2 ws)) (base + p) k.body s) r m m₁ → Says answered (noted.statement g base c s) r m m₁
-normalize_whole g base {ws} {p} {c} k s {r} {m} {m₁} h =
-    let e : base + p ≡ code.normalized_at base k.given = omega (arith, k.p_is) in
-    let given : Says answered (noted.normalized g (base + 2) k.given (base + p) k.body s) r m m₁ = subst (λ (l : List ℕ). Says answered (noted.normalized g (base + 2) l (base + p) k.body s) r m m₁) k.given_part h in
-    let placed : Says answered (noted.normalized g (base + 2) k.given (code.normalized_at base k.given) k.body s) r m m₁ = subst (λ (i : ℕ). Says answered (noted.normalized g (base + 2) k.given i k.body s) r m m₁) e given in
-    subst (λ (d : Statement). Says answered (noted.statement g base d s) r m m₁) (sym k.same)
-    (subst (λ (x : Noted State). Says answered x r m m₁) (sym (normalize_is g base k.given k.body s)) placed)
-
-pub only_fail : {ws : List ℕ} (c : Statement) → ws ≡ code.statement c → 4 ≤ get_or ws 0 0 → (get_or ws 0 0 ≡ 4 → ⊥) → (get_or ws 0 0 ≡ 5 → ⊥) → (get_or ws 0 0 ≡ 7 → ⊥) → c ≡ Fail
-only_fail {ws} c e least no_if no_loop no_normalize =
-    let k = statement_kind c (begins_whole e) in
-    (fail_here c (begins_whole e) (let q : get_or ws 0 0 ≡ 6 = omega (arith, k.0, k.1) in q)).same
+-- it is named where its state is not empty, and then gone over
+pub entered_block : (g : Setting) (at : ℕ) (t : Statements) (s : State) (m : List ℕ) {a : Answer State} {m₁ m₂ : List ℕ} →
+    m₁ ≡ cond (states.is_live s) (set m at 1) m → Says (noted.list g (at + 1) t s) a m₁ m₂ → Says (noted.block g at t s) a m m₂
+entered_block g at t s m {a} {m₂ = m₂} e h = (entered_if (states.is_live s) at (noted.list g (at + 1) t s) m).on (subst (λ (l : List ℕ). Says (noted.list g (at + 1) t s) a l m₂) e h)
 
 -- ---- a list
 
--- a plain statement gives the same from the same ranges
-pub same_change : (c : Statement) {own read own₁ read₁ : Range} → own ≡ own₁ → read ≡ read₁ → plain.change c own read ≡ plain.change c own₁ read₁
-same_change c p q = rw (p, q)
+module _ (g : Setting) (at : ℕ) (c : Statement) (cs : Statements) (s : State) where
+  abbrev rest_of : State → Noted State
+  rest_of t = noted.list g (at + length (code.statement c)) cs t
 
--- what is left of the list t at `at`, with so many statements left: it lies within the limits, and what it answers from here on is t's answer
-pub record Going (g : Setting) (base : ℕ) (ws : List ℕ) (s₀ : State) (m₀ : List ℕ) (t : Statements) (left at : ℕ) (s : State) (m : List ℕ) : Type 0 where
+  list_on : {v : State} {m m₁ : List ℕ} → Says (noted.statement g at c s) (Gives v) m m₁ → Leads (noted.list g at (c then cs) s) m (rest_of v) m₁
+  unfolding rules.list trace.list
+  list_on q = then_good rest_of q
+
+  list_refused : {number place : ℕ} {m m₁ : List ℕ} → Says (noted.statement g at c s) (Refuses number place) m m₁ → Says (noted.list g at (c then cs) s) (Refuses number place) m m₁
+  unfolding rules.list trace.list
+  list_refused q = then_refused rest_of q
+
+list_done : (g : Setting) (at : ℕ) (s : State) (m : List ℕ) → Says (noted.list g at done s) (Gives s) m m
+unfolding rules.list trace.list
+list_done g at s m = says_plain (Gives s) m
+
+-- a plain statement enters no list
+pub plain_says : (g : Setting) (at : ℕ) (c : Statement) (s : State) {a : Answer State} {m : List ℕ} → get_or (code.statement c) 0 0 < 4 → a ≡ rules.statement g at c s → Says (noted.statement g at c s) a m m
+unfolding code.statement trace.statement trace.mark
+plain_says g at c s {m = m} few e = record { out = e; marks = ap (λ (l : List ℕ). trace.mark l m) (none c few) }
+  where
+    none : (c : Statement) → get_or (code.statement c) 0 0 < 4 → [] ≡ trace.statement g at c s
+    none (Sample v add d) h = refl
+    none (Assign v add x offset) h = refl
+    none (Decrement v offset) h = refl
+    none (IfThenElse e t f) h = absurd (omega arith)
+    none (While u e b) h = absurd (omega arith)
+    none Fail h = absurd (omega arith)
+    none (Normalize vs b) h = absurd (omega arith)
+
+-- what is left of the list t at `at`, with i of k statements gone over: it lies within the limits, and what it answers from here on is t's answer
+pub record Going (g : Setting) (base : ℕ) (ws : List ℕ) (s₀ : State) (m₀ : List ℕ) (t : Statements) (i k at : ℕ) (s : State) (m : List ℕ) : Type 0 where
   pub rest : Statements
   pub is : Begins ws at (code.list rest)
-  pub counts : code.count rest ≡ left
-  pub ends : at + length (code.list rest) ≡ length ws
+  pub counts : i + code.count rest ≡ k
   pub within : ListWithin g.n t → ListWithin g.n rest
-  pub leads : Leads answered (noted.list g (base + 1) t s₀) m₀ (noted.list g (base + at) rest s) m
+  pub leads : Leads (noted.list g (base + 1) t s₀) m₀ (noted.list g (base + at) rest s) m
 
-pub going_first : (g : Setting) (base : ℕ) (ws : List ℕ) (s : State) (m : List ℕ) (t : Statements) → ws ≡ code.program t → Going g base ws s m t (get_or ws 0 0) 1 s m
-going_first g base ws s m t e = record {
-  rest = t;
-  is = begins_tail (begins_whole e);
-  counts = sym (ap (λ (l : List ℕ). get_or l 0 0) e);
-  ends = let q = ap length e in omega arith;
-  within = λ w. w;
-  leads = leads_self;
-}
-
-module _ {g : Setting} {base : ℕ} {ws : List ℕ} {s₀ : State} {m₀ : List ℕ} {t : Statements} {left at : ℕ} {s : State} {m : List ℕ} (G : Going g base ws s₀ m₀ t left at s m) where
+module _ {g : Setting} {base : ℕ} {ws : List ℕ} {s₀ : State} {m₀ : List ℕ} {t : Statements} {i k at : ℕ} {s : State} {m : List ℕ} (G : Going g base ws s₀ m₀ t i k at s m) where
   -- no statement is left
-  pub going_last : left ≡ 0 → Says answered (noted.list g (base + 1) t s₀) (answered (Gives s)) m₀ m
+  pub going_last : k ≤ i → Says (noted.list g (base + 1) t s₀) (Gives s) m₀ m
   going_last e =
       let d = done_here G.rest (omega (arith, G.counts)) in
-      G.leads.on (answered (Gives s)) m (subst (λ (r : Statements). Says answered (noted.list g (base + at) r s) (answered (Gives s)) m m) (sym d.same) (steps.list_done g (base + at) s m))
+      G.leads.on (subst (λ (r : Statements). Says (noted.list g (base + at) r s) (Gives s) m m) (sym d.same) (list_done g (base + at) s m))
 
-  module _ (some : 0 < left) where
+  module _ (some : i < k) where
     pub going_next : NextAt ws at G.rest
     going_next = next_here G.rest G.is (omega (arith, G.counts))
 
-    pub going_statement : ListWithin g.n t → StatementWithin g.n going_next.head
-    going_statement w = (next_bounds going_next.same (G.within w)).0
+    pub going_at : StatementAt ws at
+    going_at = record { tree = going_next.head; is = going_next.head_is }
 
-    -- it begins and ends within the words
-    pub going_inside : at + length (code.statement going_next.head) ≤ length ws
-    going_inside = statement_ends going_next.head going_next.head_is
+    from_next : {a : Answer State} {m₁ : List ℕ} → Says (noted.list g (base + at) (going_next.head then going_next.tail) s) a m m₁ → Says (noted.list g (base + 1) t s₀) a m₀ m₁
+    from_next {a} {m₁} h = G.leads.on (subst (λ (x : Statements). Says (noted.list g (base + at) x s) a m m₁) (sym going_next.same) h)
 
-    pub going_part : (end : ℕ) → end ≡ at + length (code.statement going_next.head) → take (end - at) (drop at ws) ≡ code.statement going_next.head
-    going_part end e = part_is (end - at) going_next.head_is (omega arith)
+    -- the part that it is
+    module _ {words : List ℕ} (cut : (c : Statement) → Begins ws at (code.statement c) → words ≡ code.statement c) where
+      pub next_words : words ≡ code.statement going_next.head
+      next_words = cut going_next.head going_next.head_is
 
-    from_next : (r : code_answer.Answer) (m₁ : List ℕ) → Says answered (noted.list g (base + at) (going_next.head then going_next.tail) s) r m m₁ → Says answered (noted.list g (base + 1) t s₀) r m₀ m₁
-    from_next r m₁ h = G.leads.on r m₁ (subst (λ (x : Statements). Says answered (noted.list g (base + at) x s) r m m₁) (sym going_next.same) h)
+      pub next_is : ListWithin g.n t → StatementIs g.n words
+      next_is w = record { tree = going_next.head; is = next_words; within = (next_bounds going_next.same (G.within w)).0 }
 
-    -- on with the next statement
-    going_on : (end : ℕ) (s₁ : State) (m₁ : List ℕ) → end ≡ at + length (code.statement going_next.head) →
-        Leads answered (noted.list g (base + at) (going_next.head then going_next.tail) s) m (noted.list g (base + at + length (code.statement going_next.head)) going_next.tail s₁) m₁ →
-        Going g base ws s₀ m₀ t (left - 1) end s₁ m₁
-    going_on end s₁ m₁ e l = record {
-      rest = going_next.tail;
-      is = begins_at (sym e) going_next.tail_is;
-      counts = omega (arith, G.counts, going_next.counts);
-      ends = omega (arith, G.ends, going_next.size);
-      within = λ w. (next_bounds going_next.same (G.within w)).1;
-      leads = record {
-        on = λ r m₂ h. from_next r m₂ (l.on r m₂
-            (subst (λ (i : ℕ). Says answered (noted.list g i going_next.tail s₁) r m₁ m₂) (let q : base + end ≡ base + at + length (code.statement going_next.head) = omega arith in q) h));
-      };
-    }
+      pub next_room : (0 < length words) × (at + length words ≤ length ws)
+      next_room =
+          let l = ap length next_words in
+          (omega (arith, statement_some going_next.head), omega (arith, statement_ends going_next.head going_next.head_is))
 
-    -- a statement that was gone over
-    module _ {r : code_answer.Answer} {m₁ : List ℕ} (h : Says answered (noted.statement g (base + at) going_next.head s) r m m₁) where
-      pub going_refused : {number place : ℕ} → r.verdict ≡ Refused number place → Says answered (noted.list g (base + 1) t s₀) r m₀ m₁
-      going_refused v = from_next r m₁ (steps.list_refused g (base + at) going_next.head going_next.tail s h v)
+      module _ {spot : ℕ} (moved : spot ≡ base + at) {m₁ : List ℕ} where
+        here : {a : Answer State} → Says (noted.statement g spot going_next.head s) a m m₁ → Says (noted.statement g (base + at) going_next.head s) a m m₁
+        here {a} q = subst (λ (p : ℕ). Says (noted.statement g p going_next.head s) a m m₁) moved q
 
-      pub going_good : (end : ℕ) → end ≡ at + length (code.statement going_next.head) → r.verdict ≡ Good → Going g base ws s₀ m₀ t (left - 1) end r.state m₁
-      going_good end e v = going_on end r.state m₁ e (steps.list_on g (base + at) going_next.head going_next.tail s h v)
+        pub going_refused : {number place : ℕ} → Says (noted.statement g spot going_next.head s) (Refuses number place) m m₁ → Says (noted.list g (base + 1) t s₀) (Refuses number place) m₀ m₁
+        going_refused q = from_next (list_refused g (base + at) going_next.head going_next.tail s (here q))
 
-    -- a plain statement
-    module _ (plainly : plain.kind going_next.head < 4) where
-      abbrev made : Range → State
-      made r = states.put s (plain.target going_next.head) r
+        pub going_on : {s₁ : State} → Says (noted.statement g spot going_next.head s) (Gives s₁) m m₁ → Going g base ws s₀ m₀ t (i + 1) k (at + length words) s₁ m₁
+        going_on {s₁} q = record {
+          rest = going_next.tail;
+          is = begins_at (let l = ap length next_words in let e : at + length (code.statement going_next.head) ≡ at + length words = omega arith in e) going_next.tail_is;
+          counts = omega (arith, G.counts, going_next.counts);
+          within = λ w. (next_bounds going_next.same (G.within w)).1;
+          leads = record {
+            on = λ {a} {m'} h. from_next ((list_on g (base + at) going_next.head going_next.tail s (here q)).on
+                (subst (λ (j : ℕ). Says (noted.list g j going_next.tail s₁) a m₁ m')
+                (let l = ap length next_words in let e : base + (at + length words) ≡ base + at + length (code.statement going_next.head) = omega arith in e) h));
+          };
+        }
 
-      abbrev given : Bounded
-      given = plain.change going_next.head (states.get s (plain.target going_next.head)) (states.get s (plain.source going_next.head))
+-- ---- an if
 
-      pub going_over : s.live ≡ true → Over ≡ given → Says answered (noted.list g (base + 1) t s₀) (answered (Refuses 8 (base + at))) m₀ m
-      going_over l e = from_next (answered (Refuses 8 (base + at))) m (steps.plain_over g (base + at) s going_next.head going_next.tail plainly m l (sym e))
+-- the sides of an event, as the rules have them
+abbrev pub two : Sides → rules.Sides
+two z = record { yes = z.yes; no = z.no }
 
-      pub going_changed : (end : ℕ) → end ≡ at + length (code.statement going_next.head) → {r : Range} → Is r ≡ given → (s₁ : State) → s₁ ≡ made r →
-          Going g base ws s₀ m₀ t (left - 1) end s₁ m
-      going_changed end e {r} q s₁ h = subst (λ (z : State). Going g base ws s₀ m₀ t (left - 1) end z m) (sym h)
-          (going_on end (made r) m e (steps.plain_on g (base + at) s going_next.head going_next.tail plainly m (sym q)))
+pub sides_are : (a : Answer rules.Sides) (r : Result Sides Refusal) → r ≡ sided a → a ≡ answer_by two r
+sides_are (Gives t) r e = rw e
+sides_are (Refuses number place) r e = rw e
 
-      pub going_dead : (end : ℕ) → end ≡ at + length (code.statement going_next.head) → s.live ≡ false → Going g base ws s₀ m₀ t (left - 1) end s m
-      going_dead end e d = going_on end s m e (steps.plain_dead g (base + at) s going_next.head going_next.tail plainly m d)
+module _ (g : Setting) {base size : ℕ} {c : Statement} {parts : Branch} (k : BranchOf base size c parts) (s : State) (m : List ℕ) where
+  abbrev an_if : Statement
+  an_if = IfThenElse k.event k.then_list k.else_list
 
-    -- its words, where the code reads them
-    pub going_kind : get_or ws at 0 ≡ plain.kind going_next.head
-    going_kind = begins_kind going_next.head going_next.head_is
+  abbrev otherwise : rules.Sides → State → Noted State
+  otherwise z a = ending (noted.block g (code.else_at base k.event k.then_list) k.else_list z.no) (λ b. Gives (states.join g.n a b))
 
-    pub going_own : plain.kind going_next.head < 4 → get_or ws (at + 1) 0 ≡ plain.target going_next.head
-    going_own k = begins_target going_next.head going_next.head_is k
+  abbrev branches : rules.Sides → Noted State
+  branches z = then_noted (noted.block g (code.then_at base k.event) k.then_list z.yes) (otherwise z)
 
-    pub going_long : get_or ws at 0 < 4 → 3 ≤ length (code.statement going_next.head)
-    going_long k = plain_long (code.statement going_next.head) going_next.head refl (omega (arith, going_kind, plain_kind (code.statement going_next.head) going_next.head refl))
+  is_if : {a : Answer State} {m₁ : List ℕ} → Says (noted.statement g base an_if s) a m m₁ → Says (noted.statement g base c s) a m m₁
+  is_if {a} {m₁} h = subst (λ (d : Statement). Says (noted.statement g base d s) a m m₁) (sym k.same) h
 
-    module _ (w : ListWithin g.n t) (end : ℕ) (e : end ≡ at + length (code.statement going_next.head)) where
-      pub going_is : StatementIs g.n (take (end - at) (drop at ws))
-      going_is = record { tree = going_next.head; is = going_part end e; within = going_statement w }
+  event_here : {r : Result Sides Refusal} → r ≡ sided (rules.event g parts.event.base k.event s) → rules.event g (base + 1) k.event s ≡ answer_by two r
+  event_here {r} q = subst (λ (at : ℕ). rules.event g at k.event s ≡ answer_by two r) k.event_base (sides_are (rules.event g parts.event.base k.event s) r q)
 
-      pub going_first_word : get_or (take (end - at) (drop at ws)) 0 0 ≡ get_or ws at 0
-      going_first_word = sym (plain_kind (take (end - at) (drop at ws)) going_next.head (going_part end e)) ∙ sym going_kind
+  pub if_unsplit : {d : Refusal} → Err d ≡ sided (rules.event g parts.event.base k.event s) → Says (noted.statement g base c s) (Refuses d.number d.place) m m
+  unfolding rules.statement trace.statement
+  if_unsplit q = is_if (from_refused (rules.event g (base + 1) k.event s) branches m (event_here q))
 
-    -- where the code says that it ends
-    module _ {end : ℕ} (ends : (c : Statement) → Begins ws at (code.statement c) → end ≡ at + length (code.statement c)) where
-      pub going_end : end ≡ at + length (code.statement going_next.head)
-      going_end = ends going_next.head going_next.head_is
+  module _ {z : Sides} (split : Ok z ≡ sided (rules.event g parts.event.base k.event s)) where
+    branching : Leads (noted.statement g base an_if s) m (branches (two z)) m
+    unfolding rules.statement trace.statement
+    branching = from_good (rules.event g (base + 1) k.event s) branches m (event_here split)
 
-      pub going_room : (at < end) × (end ≤ length ws)
-      going_room = (omega (arith, going_end, statement_some going_next.head), omega (arith, going_end, going_inside))
+    then_block : {a : Answer State} {m₁ : List ℕ} → Says (noted.block g parts.then.base k.then_list z.yes) a m m₁ → Says (noted.block g (code.then_at base k.event) k.then_list z.yes) a m m₁
+    then_block {a} {m₁} q = subst (λ (at : ℕ). Says (noted.block g at k.then_list z.yes) a m m₁) k.then_base q
 
-      -- the variables of a plain statement, and the range that it gives, as the code has them
-      module _ (few : get_or ws at 0 < 4) where
-        pub going_plain : plain.kind going_next.head < 4
-        going_plain = kind_below going_kind few
+    pub if_then_refused : {number place : ℕ} {m₁ : List ℕ} → Says (noted.block g parts.then.base k.then_list z.yes) (Refuses number place) m m₁ → Says (noted.statement g base c s) (Refuses number place) m m₁
+    if_then_refused q = is_if (branching.on (then_refused (otherwise (two z)) (then_block q)))
 
-        pub going_own_below : g.n ≤ 64 → ListWithin g.n t → get_or ws (at + 1) 0 < 64
-        going_own_below bound w = omega (arith, going_own going_plain, target_below going_next.head (going_statement w) going_plain, bound)
+    module _ {a : State} {m₁ : List ℕ} (went : Says (noted.block g parts.then.base k.then_list z.yes) (Gives a) m m₁) where
+      else_block : {b : Answer State} {m₂ : List ℕ} → Says (noted.block g parts.otherwise.base k.else_list z.no) b m₁ m₂ → Says (noted.block g (code.else_at base k.event k.then_list) k.else_list z.no) b m₁ m₂
+      else_block {b} {m₂} q = subst (λ (at : ℕ). Says (noted.block g at k.else_list z.no) b m₁ m₂) k.else_base q
 
-        module _ {source : ℕ} (sources : (c : Statement) → take (end - at) (drop at ws) ≡ code.statement c → source ≡ plain.source c) where
-          going_source : source ≡ plain.source going_next.head
-          going_source = sources going_next.head (going_part end going_end)
+      on_else : Leads (noted.statement g base an_if s) m (otherwise (two z) a) m₁
+      on_else = leads_then branching (then_good (otherwise (two z)) (then_block went))
 
-          pub going_source_below : g.n ≤ 64 → ListWithin g.n t → source < 64
-          going_source_below bound w = omega (arith, going_source, source_below going_next.head (going_statement w) going_plain, bound)
+      pub if_else_refused : {number place : ℕ} {m₂ : List ℕ} → Says (noted.block g parts.otherwise.base k.else_list z.no) (Refuses number place) m₁ m₂ → Says (noted.statement g base c s) (Refuses number place) m m₂
+      if_else_refused q = is_if (on_else.on (ending_refused (λ b. Gives (states.join g.n a b)) (else_block q)))
 
-          pub going_given : (a : Cell) → length s.cells ≡ 64 → get_or ws (at + 1) 0 < 64 → source < 64 → {r : Bounded} →
-              ((c : Statement) → take (end - at) (drop at ws) ≡ code.statement c → r ≡ plain.change c (get_or s.cells (get_or ws (at + 1) 0) a).range (get_or s.cells source a).range) →
-              r ≡ given going_plain
-          going_given a long own_in source_in changes =
-              let own = there s.cells (get_or ws (at + 1) 0) a (omega (arith, long, own_in)) in
-              let read = there s.cells source a (omega (arith, long, source_in)) in
-              changes going_next.head (going_part end going_end)
-              ∙ same_change going_next.head (ap (λ (z : Cell). z.range) own ∙ ap (λ (v : ℕ). states.get s v) (going_own going_plain)) (ap (λ (z : Cell). z.range) read ∙ ap (λ (v : ℕ). states.get s v) going_source)
+      pub if_joined : {b : State} {m₂ : List ℕ} → Says (noted.block g parts.otherwise.base k.else_list z.no) (Gives b) m₁ m₂ → Says (noted.statement g base c s) (Gives (states.join g.n a b)) m m₂
+      if_joined q = is_if (on_else.on (ending_good (λ b. Gives (states.join g.n a b)) (else_block q)))
+
+-- ---- a fail
+
+pub says_fail : (g : Setting) (at : ℕ) (s : State) (m : List ℕ) → Says (noted.statement g at Fail s) (Gives states.empty) m m
+unfolding rules.statement trace.statement
+says_fail g at s m = says_plain (Gives states.empty) m
+
+-- ---- a pass
+
+module _ (g : Setting) {at : ℕ} {e : Event} {b : Statements} {parts : Loop} (k : LoopAt at e b parts) (s : State) where
+  -- what the code's sides say of the event
+  pub loop_event : {r : Result Sides Refusal} → r ≡ sided (rules.event g parts.event.base e s) → rules.event g (at + 3) e s ≡ answer_by two r
+  loop_event {r} q = subst (λ (i : ℕ). rules.event g i e s ≡ answer_by two r) k.event_base (sides_are (rules.event g parts.event.base e s) r q)
+
+  pub pass_refused : {d : Refusal} {m : List ℕ} → Err d ≡ sided (rules.event g parts.event.base e s) → Says (noted.pass g at e b s) (Refuses d.number d.place) m m
+  pass_refused {m = m} q = from_refused (rules.event g (at + 3) e s) (λ t. ending (noted.block g (code.body_at at e) b t.yes) (λ x. Gives (record { next = x; exit = t.no }))) m (loop_event q)

@@ -1,6 +1,6 @@
 pub mod Sought
 pub mod Outcomes
 pub mod Noted
-pub mod Plain
+pub mod Parts
 pub mod Loops
 pub mod Entries

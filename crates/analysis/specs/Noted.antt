@@ -1,6 +1,7 @@
 -- The rules and the trace side by side: an answer, and the lists entered on the way to it.
 use Rattle.std.specs.Prelude.{◌≡◌, List, [], ◌++◌, ℕ, ◌+◌}
 use Rattle.states.specs.declared.State.{State}
+use Rattle.events.specs.declared.Setting as events
 use Rattle.states.specs.Answers.{Answer, Gives, and_then}
 use Rattle.paper.specs.Tree.{Event, Statement, Statements}
 use Rattle.paper.specs.Code as code
@@ -31,13 +32,17 @@ from a f = record { answer = and_then a (λ x. (f x).answer); places = after a (
 abbrev pub ending : {A B : Type 0} → Noted A → (A → Answer B) → Noted B
 ending x f = record { answer = and_then x.answer f; places = x.places }
 
--- r is the answer as the code has it, and the marks after it are those before it with the places entered marked
-pub record Says {A C : Type 0} (as_code : Answer A → C) (x : Noted A) (r : C) (before after : List ℕ) : Type 0 where
-  pub out : r ≡ as_code x.answer
+-- a is the answer, and the marks after it are those before it with the places entered marked
+pub record Says {A : Type 0} (x : Noted A) (a : Answer A) (before after : List ℕ) : Type 0 where
+  pub out : a ≡ x.answer
   pub marks : after ≡ mark x.places before
 
 abbrev pub setting : ℕ → ℕ → Setting
 setting n u = record { n = n; unroll = u }
+
+-- the code's setting
+abbrev pub setting_of : events.Setting → Setting
+setting_of g = setting g.n g.unroll
 
 -- the statements from a place on
 abbrev pub list : Setting → ℕ → Statements → State → Noted State

@@ -1,43 +1,45 @@
--- The rules' answers as the code has them: a refusal hands back empty states and no counts.
-use Rattle.std.specs.Prelude.{false}
-use Rattle.states.specs.declared.Verdict.TheVariants.{Good, Refused}
-use Rattle.states.specs.Answers.{Answer, Gives, Refuses}
-use Rattle.states.specs.States as states
+-- The code's results as the rules' answers.
+use Rattle.std.specs.Prelude.{ℕ, Option, Some, None, Result, Ok, Err}
+use Rattle.states.specs.declared.Refusal.{Refusal}
+use Rattle.states.specs.declared.State.{State}
+use Rattle.states.specs.Answers.{Answer, Gives, Refuses, refusal}
 use Rattle.paper.specs.Rules as rules
 use Rattle.paper.specs.Rules.{AtPass, Nowhere}
-use Rattle.analysis.specs.declared.Pass as pass
-use Rattle.analysis.specs.declared.Found as found
-use Rattle.analysis.specs.declared.Found.TheVariants.{At, Nowhere as NoPass, Refused as Stopped}
-use Rattle.analysis.specs.declared.Sought as seeking
-use Rattle.analysis.specs.declared.Settling as settling
-use Rattle.analysis.specs.declared.Settled as settled
-use Rattle.analysis.specs.declared.LoopAnswer as loops
+use Rattle.analysis.specs.declared.stages.Sought as seeking
+use Rattle.analysis.specs.declared.stages.Settling.{Settling}
+use Rattle.analysis.specs.declared.stages.Settled.{Settled}
+use Rattle.analysis.specs.declared.LoopAnswer.{LoopAnswer}
 use Rattle.analysis.specs.Sought.{Sought}
 
-abbrev pub passed : Answer rules.Pass → pass.Pass
-passed (Gives p) = record { verdict = Good; next = p.next; exit = p.exit }
-passed (Refuses number place) = record { verdict = Refused number place; next = states.empty; exit = states.empty }
+-- a result as an answer, by what the rules call the thing that it holds
+abbrev pub answer_by : {A C : Type 0} → (C → A) → Result C Refusal → Answer A
+answer_by f (Ok c) = Gives (f c)
+answer_by f (Err r) = Refuses r.number r.place
 
-abbrev pub found_by : Answer rules.Found → found.Found
-found_by (Gives (AtPass i)) = At i
-found_by (Gives Nowhere) = NoPass
-found_by (Refuses number place) = Stopped number place
+-- the same, of a function that changes a state in place
+abbrev pub in_place : State → Result (Unit {0}) Refusal → Answer State
+in_place s = answer_by (λ _. s)
 
-abbrev pub sought_by : Answer Sought → seeking.Sought
-sought_by (Gives s) = record { found = found_by (Gives s.found); turned = s.turned; exits = s.exits }
-sought_by (Refuses number place) = record { found = Stopped number place; turned = states.empty; exits = states.empty }
+-- a pass, by the new state at the loop's head and the exit
+abbrev pub a_pass : State → State → rules.Pass
+a_pass next exit = record { next = next; exit = exit }
 
-abbrev pub grown : Answer rules.Settling → settling.Settling
-grown (Gives s) = record { verdict = Good; settled = s.settled; state = s.at; passes = s.passes }
-grown (Refuses number place) = record { verdict = Refused number place; settled = false; state = states.empty; passes = 0 }
+abbrev pub a_find : Option ℕ → rules.Found
+a_find (Some i) = AtPass i
+a_find None = Nowhere
 
-abbrev pub settled_on : Answer rules.Settled → settled.Settled
-settled_on (Gives s) = record { verdict = Good; state = s.at; joined = s.joined; widened = s.widened }
-settled_on (Refuses number place) = record { verdict = Refused number place; state = states.empty; joined = 0; widened = 0 }
+-- a search and the stages, by the state that they leave
+abbrev pub a_search : State → seeking.Sought → Sought
+a_search turned s = record { found = a_find s.found; turned = turned; exits = s.exits }
 
-abbrev pub looped : Answer rules.Looped → loops.LoopAnswer
-looped (Gives l) = record {
-  verdict = Good;
+abbrev pub a_stage : State → Settling → rules.Settling
+a_stage at s = record { settled = s.settled; at = at; passes = s.passes }
+
+abbrev pub both_stages : State → Settled → rules.Settled
+both_stages at s = record { at = at; joined = s.joined; widened = s.widened }
+
+abbrev pub a_loop : LoopAnswer → rules.Looped
+a_loop l = record {
   exits = l.exits;
   turned = l.turned;
   settled = l.settled;
@@ -46,13 +48,16 @@ looped (Gives l) = record {
   joined = l.joined;
   widened = l.widened;
 }
-looped (Refuses number place) = record {
-  verdict = Refused number place;
-  exits = states.empty;
-  turned = states.empty;
-  settled = states.empty;
-  searched = 0;
-  unrolls = 0;
-  joined = 0;
-  widened = 0;
-}
+
+-- what the rules answer of a loop, as the code has it
+abbrev pub looped : Answer rules.Looped → Result LoopAnswer Refusal
+looped (Gives l) = Ok (record {
+  exits = l.exits;
+  turned = l.turned;
+  settled = l.settled;
+  searched = l.searched;
+  unrolls = l.unrolls;
+  joined = l.joined;
+  widened = l.widened;
+})
+looped (Refuses number place) = Err (refusal number place)

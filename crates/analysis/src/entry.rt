@@ -1,90 +1,73 @@
 // What the public functions share: admission, the check, and the walk with lent marks.
-ghost use Rattle.std.specs.Prelude.{◌≡◌, ◌≤◌, length};
-ghost use Rattle.analysis.specs.Entries.{Analysed, begun};
-ghost use Rattle.analysis.specs.Outcomes.{looped};
+ghost use Rattle.std.specs.Prelude.{◌≡◌, ◌≤◌, length, IfOk, OnOk};
+ghost use Rattle.analysis.specs.Entries.{Analysed};
+ghost use Rattle.analysis.specs.Noted.{setting_of};
+ghost use Rattle.analysis.specs.Outcomes.{answer_by, looped};
 ghost use Rattle.paper.specs.Answers as answers;
-ghost use Rattle.states.specs.Answers.{answered};
+ghost use Rattle.states.specs.Answers.{answer_of};
 
-use crate::{LoopAnswer, outcomes, walk};
-use states::{Answer, Start, Verdict};
-use words::Checked;
+use crate::{LoopAnswer, walk};
+use events::{Part, Setting};
+use states::{Fault, Refusal, Start, State};
 
-// List length, n, default unroll, 7: the starting state, or the refusal.
-fn admitted(words: &[u64], n: usize, start: Start, unroll: usize) -> Answer
-    ensures { result ≡ answered (answers.admitted words.now n unroll start.cells) }
+// List length, n, default unroll, 7: the caller's setting and the starting state, or the refusal.
+fn admitted(
+    words: &[u64],
+    n: usize,
+    start: &Start,
+    unroll: usize,
+) -> Result<(Setting, State), Refusal>
+    ensures out { answer_by (λ admitted. admitted.1) result ≡ answers.admitted words.now n unroll start.now.cells }
+    ensures few { OnOk result (length words.now ≤ 8192) }
+    ensures setting { IfOk result (λ admitted. setting_of admitted.0 ≡ record { n = n; unroll = unroll }) }
 {
-    if 8192 < words.len() {
-        return states::refused(4, 0);
+    if 8192 < words.len() || 64 < n || 10000 < unroll {
+        return Err(Fault::OverLimit.at(0));
     }
-    if 64 < n {
-        return states::refused(4, 0);
-    }
-    if 10000 < unroll {
-        return states::refused(4, 0);
-    }
-    states::started(start, n)
+    let state = states::started(start, n)?;
+    Ok((Setting { n, unroll }, state))
 }
 
-pub fn walked(words: &[u64], n: usize, start: Start, unroll: usize, marks: &mut [u8]) -> Answer
+pub fn walked(
+    words: &[u64],
+    n: usize,
+    start: &Start,
+    unroll: usize,
+    marks: &mut [u8],
+) -> Result<State, Refusal>
     requires { length words.now ≤ 8192 → length words.now ≤ length marks.old }
-    ensures { Analysed words.now n start.cells unroll result marks.old marks.new }
+    ensures { Analysed words.now n start.now.cells unroll result marks.old marks.new }
 {
-    let a = admitted(words, n, start, unroll);
-    let verdict = a.verdict;
-    if let Verdict::Refused(_, _) = verdict {
-        return a;
-    }
-    let checked = words::check(words, n);
-    if let Checked::Refused(number, place) = checked {
-        return states::refused(number, place);
-    }
-    let s = a.state;
-    walk::list(words, 0, n, unroll, s, marks)
+    let (setting, mut state) = admitted(words, n, start, unroll)?;
+    words::check(words, n)?;
+    walk::list(Part::whole(words), setting, &mut state, marks)?;
+    Ok(state)
 }
 
 // A first word other than 1 is 3 at 0, a kind other than 5 is 3 at 1.
-fn begins(words: &[u64]) -> Verdict
-    ensures { result ≡ begun (answers.begins words.now) }
+#[tactic(auto, unfolding(paper::specs::Reader::unless, paper::specs::Reader::word, paper::specs::Reader::and_read, paper::specs::Reader::if_read))]
+fn begins(words: &[u64]) -> Result<(), Refusal>
+    ensures { answer_of result ≡ answers.begins words.now }
 {
-    let length = words.len();
-    if length == 0 {
-        return Verdict::Refused(3, 0);
+    match words {
+        [1, 5, ..] => Ok(()),
+        [1, ..] => Err(Fault::NoProgram.at(1)),
+        _ => Err(Fault::NoProgram.at(0)),
     }
-    if words[0] != 1 {
-        return Verdict::Refused(3, 0);
-    }
-    if length == 1 {
-        return Verdict::Refused(3, 1);
-    }
-    if words[1] != 5 {
-        return Verdict::Refused(3, 1);
-    }
-    Verdict::Good
 }
 
 pub fn walked_loop(
     words: &[u64],
     n: usize,
-    start: Start,
+    start: &Start,
     unroll: usize,
     marks: &mut [u8],
-) -> LoopAnswer
+) -> Result<LoopAnswer, Refusal>
     requires { length words.now ≤ 8192 → length words.now ≤ length marks.old }
-    ensures { result ≡ looped (answers.looped words.now n start.cells unroll) }
+    ensures { result ≡ looped (answers.looped words.now n start.now.cells unroll) }
 {
-    let a = admitted(words, n, start, unroll);
-    let verdict = a.verdict;
-    if let Verdict::Refused(number, place) = verdict {
-        return outcomes::no_loop(number, place);
-    }
-    let beginning = begins(words);
-    if let Verdict::Refused(number, place) = beginning {
-        return outcomes::no_loop(number, place);
-    }
-    let checked = words::check(words, n);
-    if let Checked::Refused(number, place) = checked {
-        return outcomes::no_loop(number, place);
-    }
-    let s = a.state;
-    walk::looped(&words[1..], 1, n, unroll, s, marks)
+    let (setting, state) = admitted(words, n, start, unroll)?;
+    begins(words)?;
+    words::check(words, n)?;
+    walk::looped(Part::whole(words).rest(1), setting, &state, marks)
 }

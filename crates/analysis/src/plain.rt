@@ -1,75 +1,63 @@
-// Plain statements: draws, assigns and decrements, from the ranges that they read to the range that they give.
-ghost use Rattle.std.specs.Prelude.{◌≡◌, ℕ, ◌<◌, eqb, get_or};
-ghost use Rattle.analysis.specs.Plain as plain;
+// Plain statements: draws, assigns and decrements.
+ghost use Rattle.std.specs.Prelude.{◌≡◌, Some, cond, ◌<◌, eqb, get_or};
+ghost use Rattle.analysis.specs.Noted.{setting_of};
+ghost use Rattle.analysis.specs.Outcomes.{in_place};
 ghost use Rattle.paper.specs.Code as code;
+ghost use Rattle.paper.specs.Rules as rules;
 ghost use Rattle.paper.specs.Tree.{Statement};
-ghost use Rattle.words.proofs.Nodes.{addend_of};
+ghost use Rattle.ranges.specs.Ranges as ranges;
 ghost use Rattle.words.specs.Parts.{StatementIs};
 
 use events::draws::drawn;
-use ranges::{Bounded, Range, arithmetic};
+use events::{Part, Setting};
+use ranges::Range;
+use states::{Fault, Refusal, State};
+use words::kinds::StatementKind;
 
-// What a draw or an assign begins with: the variable's range if `add`, else [0,0].
+// What a draw or an assign begins with: the variable's range if `add`, a word that is 0 or 1, is 1, else [0,0].
 fn kept(add: u64, own: Range) -> Range
-    ensures { result ≡ plain.kept (eqb add 1) own }
+    ensures { result ≡ cond (eqb add 1) own (ranges.point 0) }
 {
-    if add == 1 {
-        return own;
-    }
-    ranges::zero()
+    if add == 1 { own } else { Range::zero() }
 }
 
-// The factor times the range of w, or [0,0] where there is none.
-fn product(has: u64, factor: u32, read: Range) -> Bounded
-    ensures { (w : ℕ) → result ≡ plain.product (addend_of has factor w) read }
+// The factor times the range of w, or [0,0] where `has`, a word that is 0 or 1, is 0.
+fn product(has: u64, factor: u32, read: Range) -> Option<Range>
+    ensures { result ≡ cond (eqb has 0) (Some (ranges.point 0)) (ranges.times read factor) }
 {
     if has == 0 {
-        return Bounded::Is(ranges::zero());
+        Some(Range::zero())
+    } else {
+        read.times(factor)
     }
-    arithmetic::times(read, factor)
 }
 
-fn summed(first: Range, offset: u32, product: Bounded) -> Bounded
-    ensures { result ≡ plain.summed first offset product }
+// A state goes over a plain statement. An empty one stays as it is.
+#[tactic(auto, unfolding(paper::specs::Code::statement, paper::specs::Rules::statement, paper::specs::Limits::AddendIn))]
+pub fn change(part: Part, setting: Setting, state: &mut State) -> Result<(), Refusal>
+    requires statement_is { StatementIs setting.n part.words.now }
+    requires plain_kind { get_or part.words.now 0 0 < 4 }
+    ensures { (c : Statement) → part.entry.words.now ≡ code.statement c → in_place state.new result ≡ rules.statement (setting_of setting) part.entry.base c state.old }
 {
-    match product {
-        Bounded::Over => Bounded::Over,
-        Bounded::Is(range) => {
-            let sum = arithmetic::sum(first, range);
-            let all = arithmetic::sum(sum, ranges::point(offset));
-            Bounded::Is(all)
+    if !state.is_live() {
+        return Ok(());
+    }
+    let words = part.words;
+    let variable = words[1] as usize;
+    let own = state.get(variable);
+    let range = match StatementKind::of(words[0]).unwrap() {
+        StatementKind::Sample => kept(words[2], own).sum(drawn(part.rest(3).words, setting.n)),
+        StatementKind::Assign => {
+            let first = kept(words[2], own);
+            let read = state.get(words[5] as usize);
+            let offset = Range::point(words[6] as u32);
+            let product = product(words[3], words[4] as u32, read);
+            first
+                .sum(product.ok_or(Fault::Overflow.at(part.base))?)
+                .sum(offset)
         }
-    }
-}
-
-// The variable that a plain statement reads besides its own; its own where there is no other.
-pub fn source(words: &[u64], n: usize) -> usize
-    requires statement_is { StatementIs n words.now }
-    requires plain_kind { get_or words.now 0 0 < 4 }
-    ensures { (c : Statement) → words.now ≡ code.statement c → result ≡ plain.source c }
-{
-    if words[0] == 2 {
-        if words[3] == 1 {
-            return words[5] as usize;
-        }
-    }
-    words[1] as usize
-}
-
-// The new range of its variable, from the old ranges of its own variable and of the one that it reads.
-pub fn change(words: &[u64], n: usize, own: Range, read: Range) -> Bounded
-    requires statement_is { StatementIs n words.now }
-    requires plain_kind { get_or words.now 0 0 < 4 }
-    ensures { (c : Statement) → words.now ≡ code.statement c → result ≡ plain.change c own read }
-{
-    if words[0] == 3 {
-        return Bounded::Is(arithmetic::less(own, words[2] as u32));
-    }
-    let first = kept(words[2], own);
-    if words[0] == 1 {
-        let drawn = drawn(&words[3..], n);
-        return Bounded::Is(arithmetic::sum(first, drawn));
-    }
-    let product = product(words[3], words[4] as u32, read);
-    summed(first, words[6] as u32, product)
+        _ => own.less(words[2] as u32),
+    };
+    state.put(variable, range);
+    Ok(())
 }

@@ -1,55 +1,44 @@
 -- Refused at admission, at the first two words, by the check, or the walk over the one loop.
-use Rattle.std.proofs.Common.{◌∙◌, ap, sym, arith}
-use Rattle.paper.specs.Answers as answers
+use Rattle.std.proofs.Common.{◌≡◌, ◌∙◌, sym, ap, ℕ, length, length-drop, drop, arith}
 use Rattle.paper.specs.Reader as reader
-use Rattle.analysis.specs.Outcomes.{looped as loop_answer}
-use Rattle.analysis.proofs.Entries.{admitted_small, looped_unadmitted, looped_unbegun, looped_bad, looped_read, begun_good, one_loop, one_answer, part_size, unsound_is, sound_is}
-use Rattle.analysis.proofs.Says.{answered_good, answered_refused}
+use Rattle.paper.specs.Rules.{Setting}
+use Rattle.analysis.proofs.Entries.{looped_unadmitted, looped_unbegun, looped_bad, looped_read, looped_refused, as_looped, begun_good, one_loop, one_answer, unsound_is, sound_is}
 use Rattle.analysis.proofs.entry.walked_loop.Goals as goal
 
-pub returns-in-Refused : goal.returns-in-Refused
-returns-in-Refused c =
+pub returns-in_err-setting : goal.returns-in_err-setting
+returns-in_err-setting c =
     let s = c.args in
-    let a = answered_refused (answers.admitted s.words.now s.n s.unroll s.start.cells) c.admitted-a.ensures c.in-Refused.is in
-    c.no_loop.ensures ∙ ap loop_answer (sym (looped_unadmitted s.words.now s.n s.unroll s.start.cells a))
+    looped_refused c.from_residual.result (looped_unadmitted s.words.now s.n s.unroll s.start.now.cells (sym c.in_err-setting.ensures.out)) c.from_residual.ensures.1
 
-pub returns-in-Refused-beginning : goal.returns-in-Refused-beginning
-returns-in-Refused-beginning c =
+pub returns-in_err-begins : goal.returns-in_err-begins
+returns-in_err-begins c =
     let s = c.args in
-    let a = answered_good (answers.admitted s.words.now s.n s.unroll s.start.cells) c.admitted-a.ensures c.in_default.is in
-    c.no_loop-in-Refused-beginning.ensures ∙ ap loop_answer (sym (looped_unbegun s.words.now s.n s.unroll s.start.cells a c.in-Refused-beginning.ensures))
+    looped_refused c.from_residual-in_err-begins.result (looped_unbegun s.words.now s.n s.unroll s.start.now.cells (sym c.in_ok-setting.ensures.out) c.in_err-begins.ensures) c.from_residual-in_err-begins.ensures.1
 
-pub returns-in-Refused-checked : goal.returns-in-Refused-checked
-returns-in-Refused-checked c =
+pub returns-in_err-check : goal.returns-in_err-check
+returns-in_err-check c =
     let s = c.args in
-    let a = answered_good (answers.admitted s.words.now s.n s.unroll s.start.cells) c.admitted-a.ensures c.in_default.is in
-    let b = unsound_is (reader.program s.words.now s.n) (sym c.in-Refused-checked.ensures) in
-    c.no_loop-in-Refused-checked.ensures ∙ ap loop_answer (sym (looped_bad s.words.now s.n s.unroll s.start.cells a c.in_default-beginning.ensures b))
+    looped_refused c.from_residual-in_err-check.result
+    (looped_bad s.words.now s.n s.unroll s.start.now.cells (sym c.in_ok-setting.ensures.out) c.in_ok-begins.ensures (unsound_is (reader.program s.words.now s.n) c.in_err-check.ensures)) c.from_residual-in_err-check.ensures.1
 
-pub slice_bounds-looped-count : goal.slice_bounds-looped-count
-slice_bounds-looped-count c = omega (arith, (begun_good c.args.words.now c.in_default-beginning.ensures).long)
-
-pub slice_bounds-looped-start : goal.slice_bounds-looped-start
-slice_bounds-looped-start c = omega (arith, (begun_good c.args.words.now c.in_default-beginning.ensures).long)
+pub rest-requires : goal.rest-requires
+rest-requires c = omega (arith, (begun_good c.args.words.now c.in_ok-begins.ensures).long, ap length c.whole.ensures.words_all)
 
 pub looped-requires-clause-loop_is : goal.looped-requires-clause-loop_is
 looped-requires-clause-loop_is c =
-    let p = sound_is c.args.words.now c.args.n (sym c.in_default-checked.ensures) in
-    (one_loop p (begun_good c.args.words.now c.in_default-beginning.ensures)).loop
+    let same : c.in_ok-setting.setting.n ≡ c.args.n = ap (λ (g : Setting). g.n) c.in_ok-setting.ensures.setting in
+    rw (same, c.rest.ensures.words_left, c.whole.ensures.words_all) (one_loop (sound_is c.args.words.now c.args.n c.in_ok-check.ensures) (begun_good c.args.words.now c.in_ok-begins.ensures)).loop
 
-pub looped-requires-clause-words_in_bounds : goal.looped-requires-clause-words_in_bounds
-looped-requires-clause-words_in_bounds c =
-    let s = c.args in
-    let a = answered_good (answers.admitted s.words.now s.n s.unroll s.start.cells) c.admitted-a.ensures c.in_default.is in
-    let few = (admitted_small s.words.now s.n s.unroll s.start.cells a).0 in
-    omega (arith, part_size s.words.now, (begun_good s.words.now c.in_default-beginning.ensures).long, c.requires few)
+pub looped-requires-clause-within_marks : goal.looped-requires-clause-within_marks
+looped-requires-clause-within_marks c =
+    omega (arith, (begun_good c.args.words.now c.in_ok-begins.ensures).long, c.requires c.in_ok-setting.ensures.few, ap length c.rest.ensures.words_left, ap length c.whole.ensures.words_all, length-drop {A = ℕ}, c.rest.ensures.base_moved, c.whole.ensures.base_zero)
 
 pub returns : goal.returns
 returns c =
     let s = c.args in
-    let a = answered_good (answers.admitted s.words.now s.n s.unroll s.start.cells) c.admitted-a.ensures c.in_default.is in
-    let b = c.in_default-beginning.ensures in
-    let p = sound_is s.words.now s.n (sym c.in_default-checked.ensures) in
-    let o = one_loop p (begun_good s.words.now b) in
-    (c.looped.ensures o.unroll o.event o.body o.is).out
-    ∙ ap loop_answer (sym (looped_read s.words.now s.n s.unroll s.start.cells a b p.read ∙ one_answer s.unroll c.admitted-a.result.state o))
+    let p = sound_is s.words.now s.n c.in_ok-check.ensures in
+    let o = one_loop p (begun_good s.words.now c.in_ok-begins.ensures) in
+    let words = c.rest.ensures.words_left ∙ ap (drop 1) c.whole.ensures.words_all ∙ o.is in
+    as_looped c.looped.result
+    ((c.looped.ensures o.unroll o.event o.body words).out
+    ∙ sym (looped_read s.words.now s.n s.unroll s.start.now.cells (sym c.in_ok-setting.ensures.out) c.in_ok-begins.ensures p.read ∙ one_answer s.unroll c.in_ok-setting.state o c.in_ok-setting.ensures.setting (omega (arith, c.rest.ensures.base_moved, c.whole.ensures.base_zero))))

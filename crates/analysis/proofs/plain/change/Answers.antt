@@ -1,77 +1,24 @@
--- One law for each kind of plain statement.
-use Rattle.std.proofs.Common.{◌-◌, length, get_or, ap, arith}
-use Rattle.words.proofs.Parts.{part_is}
-use Rattle.analysis.proofs.Plains.{only_assign, a_sample, has_first, assign_long, sample_long, plain_long, decrement_change, sample_change, assign_change, draw_part, decrement_small, offset_small, factor_small}
+-- Each kind of plain statement by its rule, over its words.
+use Rattle.std.proofs.Common.{arith}
+use Rattle.analysis.proofs.Plains.{draw_part, factor_small, draw_words, dead_rule, sample_rule, assign_on, assign_over, decrement_rule}
 use Rattle.analysis.proofs.plain.change.Goals as goal
+use Rattle.analysis.proofs.plain.change.Goals.{in-Sample, in-Assign+in_ok-ok_or-in-Assign, in_default}
 
-pub bounds-words-0 : goal.bounds-words-0
-bounds-words-0 c = let p = c.requires.statement_is in has_first c.args.words.now p.tree p.is
+pub returns-then-not-is_live : goal.returns-then-not-is_live
+returns-then-not-is_live c = λ d e. grind (arith, dead_rule)
 
-pub bounds-words-2 : goal.bounds-words-2
-bounds-words-2 c = let p = c.requires.statement_is in omega (arith, plain_long c.args.words.now p.tree p.is c.requires.plain_kind)
+pub drawn-requires : goal.drawn-requires
+drawn-requires c = rw c.rest.ensures.words_left (draw_part c.requires.statement_is (rw c.in-Sample.ensures at c.of.ensures))
 
-pub overflow_cast-words : goal.overflow_cast-words
-overflow_cast-words c = omega (arith, decrement_small c.args.words.now c.requires.statement_is c.if-words-eq3.true)
+pub overflow_cast-words-in-Assign : goal.overflow_cast-words-in-Assign
+overflow_cast-words-in-Assign c = omega (arith, factor_small c.requires.statement_is (rw c.in-Assign.ensures at c.of.ensures))
 
-pub returns-then-words-eq3 : goal.returns-then-words-eq3
-returns-then-words-eq3 c = λ d e. rw c.less.ensures (decrement_change c.args.words.now d e c.args.own c.args.read c.if-words-eq3.true)
-
-pub bounds-words-2-2 : goal.bounds-words-2-2
-bounds-words-2-2 c = let p = c.requires.statement_is in omega (arith, plain_long c.args.words.now p.tree p.is c.requires.plain_kind)
-
-pub bounds-words-0-2 : goal.bounds-words-0-2
-bounds-words-0-2 c = let p = c.requires.statement_is in has_first c.args.words.now p.tree p.is
-
-pub slice_bounds-drawn-count : goal.slice_bounds-drawn-count
-slice_bounds-drawn-count c = let p = c.requires.statement_is in omega (arith, sample_long c.args.words.now p.tree p.is c.if-words-eq1.true)
-
-pub slice_bounds-drawn-start : goal.slice_bounds-drawn-start
-slice_bounds-drawn-start c = let p = c.requires.statement_is in omega (arith, sample_long c.args.words.now p.tree p.is c.if-words-eq1.true)
-
-pub drawn-drawn-requires : goal.drawn-drawn-requires
-drawn-drawn-requires c = draw_part c.args.words.now c.requires.statement_is c.if-words-eq1.true
-
-pub returns-then-words-eq1 : goal.returns-then-words-eq1
-returns-then-words-eq1 c = λ d e.
-    let ws = c.args.words.now in
-    let k = c.if-words-eq1.true in
-    let x = a_sample ws d e k in
-    rw (c.sum.ensures, c.kept-first.ensures)
-    (sample_change ws d e c.args.own c.args.read k c.drawn-drawn.result (c.drawn-drawn.ensures x.draw (part_is (length ws - 3) x.draw_is (omega (arith, ap length e, x.size)))))
-
-pub bounds-words-3 : goal.bounds-words-3
-bounds-words-3 c =
-    let p = c.requires.statement_is in
-    let k = only_assign c.args.words.now p.tree p.is c.requires.plain_kind c.if-words-eq3.false c.if-words-eq1.false in
-    omega (arith, assign_long c.args.words.now p.tree p.is k)
-
-pub bounds-words-4 : goal.bounds-words-4
-bounds-words-4 c =
-    let p = c.requires.statement_is in
-    let k = only_assign c.args.words.now p.tree p.is c.requires.plain_kind c.if-words-eq3.false c.if-words-eq1.false in
-    omega (arith, assign_long c.args.words.now p.tree p.is k)
-
-pub overflow_cast-words-2 : goal.overflow_cast-words-2
-overflow_cast-words-2 c =
-    let p = c.requires.statement_is in
-    let k = only_assign c.args.words.now p.tree p.is c.requires.plain_kind c.if-words-eq3.false c.if-words-eq1.false in
-    omega (arith, factor_small c.args.words.now p k)
-
-pub bounds-words-6 : goal.bounds-words-6
-bounds-words-6 c =
-    let p = c.requires.statement_is in
-    let k = only_assign c.args.words.now p.tree p.is c.requires.plain_kind c.if-words-eq3.false c.if-words-eq1.false in
-    omega (arith, assign_long c.args.words.now p.tree p.is k)
-
-pub overflow_cast-words-3 : goal.overflow_cast-words-3
-overflow_cast-words-3 c =
-    let p = c.requires.statement_is in
-    let k = only_assign c.args.words.now p.tree p.is c.requires.plain_kind c.if-words-eq3.false c.if-words-eq1.false in
-    omega (arith, offset_small c.args.words.now p k)
+pub returns-in_err-ok_or-in-Assign : goal.returns-in_err-ok_or-in-Assign
+returns-in_err-ok_or-in-Assign c = λ d e. grind (arith, assign_over)
 
 pub returns : goal.returns
-returns c = λ d e.
-    let ws = c.args.words.now in
-    let k = only_assign ws d e c.requires.plain_kind c.if-words-eq3.false c.if-words-eq1.false in
-    rw (c.summed.ensures, c.kept-first.ensures)
-    (assign_change ws d e c.args.own c.args.read k c.product-product.result (c.product-product.ensures (get_or ws 5 0)))
+returns c = λ d e. elim c.match-unwrap.branch [
+  | in-Sample w ↦ grind (arith, draw_words, sample_rule)
+  | in-Assign+in_ok-ok_or-in-Assign w ↦ grind (arith, assign_on)
+  | in_default w ↦ grind (arith, decrement_rule)
+]
