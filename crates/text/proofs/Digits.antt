@@ -9,7 +9,7 @@ use lib.Dec.{lit<}
 use lib.ListN.{length, length-append}
 use lib.Seq.{append_snoc}
 use borrow.Author.Tests.{lt-ltb, le-ltb}
-use Rattle.text.specs.declared.Mode.TheVariants.{Start}
+use Rattle.text.specs.declared.reader.Mode.TheVariants.{Start}
 use Rattle.text.specs.Grammar.{digit_is, ◌then◌, both, left, right, Many, none, next, Digit1To9, DIGIT, Int, decimal, Number, number_is, ValueSeparator, Text, that, with}
 use Rattle.text.specs.Line.{ascii, last_digits, digits, Writes}
 use Rattle.text.specs.Machine.{contents, holds}

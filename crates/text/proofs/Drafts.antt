@@ -1,52 +1,77 @@
--- Bytes put into a draft one after another: each law is one step of the printer.
-use mathlib.Core.Path.{◌≡◌, refl, ap, ◌∙◌, subst}
-use mathlib.Core.List.{List, [], ◌∷◌, ◌++◌}
-use Prim.Native.Nat.{ℕ, suc, ◌+◌, ◌≤◌, ◌<◌}
+-- What the printer pushes into its draft is what the definition of the line says, and the draft has room for it.
+use mathlib.Core.Path.{◌≡◌, refl, sym, ap, ◌∙◌}
+use mathlib.Core.List.{List, [], ◌∷◌, ◌++◌, map, map-append, append_assoc, append-nil}
+use Prim.Native.Nat.{ℕ, zero, suc, ◌+◌, ◌*◌, ◌^◌, ◌≤◌, ◌<◌, min}
+use Rattle.std.proofs.lemmas.List.{take_min}
 use native.Mathlib.Omega.{arith}
 use native.Mathlib.Numerals.{add-one}
-use lib.ListN.{length, get_or, take, drop, set, length-append}
-use lib.Seq.{sets, length-sets, sets-eq, take-suc, take_all, take_at}
-use Rattle.text.specs.Draft.{Put}
+use lib.ListN.{length, get_or, take, length-map, length-append}
+use lib.Seq.{take-suc, take_all, length-take-le}
+use Rattle.states.specs.declared.Cell.{Cell}
+use Rattle.text.specs.Line.{ascii, digits, further, joined, cell, ranges}
+use Rattle.text.proofs.Digits.{width}
 
-sets_append : (l : List ℕ) (i : ℕ) (a b : List ℕ) → sets (sets l i a) (i + length a) b ≡ sets l i (a ++ b)
-sets_append l i [] b = let e : i + 0 ≡ i = omega arith in ap (λ (k : ℕ). sets l k b) e
-sets_append l i (x ∷ a) b = let e : i + suc (length a) ≡ suc i + length a = omega arith in ap (λ (k : ℕ). sets (sets (set l i x) (suc i) a) k b) e ∙ sets_append (set l i x) (suc i) a b
+-- a u32 has at most 10 digits
+pub width_32 : (x : ℕ) → x < 2 ^ 32 → length (digits x) ≤ 10
+width_32 x h = width 9 x (omega arith)
 
--- nothing put
-pub put_none : (d : List ℕ) (at : ℕ) → Put d at [] at d
-put_none d at = record { place = omega arith; draft = refl }
+-- a u64 has at most 20 digits
+pub width_64 : (x : ℕ) → x < 2 ^ 64 → length (digits x) ≤ 20
+width_64 x h = width 19 x (omega arith)
 
--- one byte stored
-pub put_one : (d : List ℕ) (at x : ℕ) → Put d at (x ∷ []) (at + 1) (set d at x)
-put_one d at x = record { place = refl; draft = refl }
+-- what is pushed in parts, and how long it is
+pub ruleset room = (length-append, append_assoc, width_32, width_64)
 
--- one after the other
-pub and_then : {d e f a b : List ℕ} {at p q : ℕ} → Put d at a p e → Put e p b q f → Put d at (a ++ b) q f
-and_then {d} {e} {f} {a} {b} {at} x y = record {
-  place = omega (arith, x.place, y.place, length-append a b);
-  draft = y.draft ∙ rw (x.draft, x.place) (sets_append d at a b);
+-- what stands before number i in a list
+abbrev pub gap : ℕ → List ℕ
+gap zero = []
+gap (suc i) = ascii ", "
+
+pub gap_first : (i : ℕ) → i ≤ 0 → gap i ≡ []
+gap_first zero h = refl
+gap_first (suc i) h = absurd (omega arith)
+
+pub gap_later : (i : ℕ) → 0 < i → gap i ≡ ascii ", "
+gap_later zero h = absurd (omega arith)
+gap_later (suc i) h = refl
+
+further_snoc : (l : List (List ℕ)) (x : List ℕ) → further (l ++ (x ∷ [])) ≡ further l ++ (ascii ", " ++ x)
+unfolding further
+further_snoc [] x = append-nil (ascii ", " ++ x)
+further_snoc (y ∷ l) x = rw (further_snoc l x) (sym (append_assoc (ascii ", " ++ y) (further l) (ascii ", " ++ x)))
+
+joined_snoc : (l : List (List ℕ)) (x : List ℕ) → joined (l ++ (x ∷ [])) ≡ joined l ++ (gap (length l) ++ x)
+unfolding joined further
+joined_snoc [] x = append-nil x
+joined_snoc (y ∷ l) x = rw (further_snoc l x) (sym (append_assoc y (further l) (ascii ", " ++ x)))
+
+ranges_next : (i : ℕ) (cells : List Cell) (other : Cell) → i < length cells → ranges (i + 1) cells ≡ ranges i cells ++ (gap i ++ cell (get_or cells i other))
+ranges_next i cells other h =
+    let e : length (map cell (take i cells)) ≡ i = length-map (take i cells) cell ∙ length-take-le i cells (omega arith) in
+    rw (add-one, take-suc cells i other, map-append)
+    (joined_snoc (map cell (take i cells)) (cell (get_or cells i other)) ∙ ap (λ (k : ℕ). ranges i cells ++ (gap k ++ cell (get_or cells i other))) e)
+
+-- the ranges of the first i cells were pushed behind a start, each of at most 29 bytes
+pub record Listing (start : List ℕ) (cells : List Cell) (i : ℕ) (draft : List ℕ) : Type 0 where
+  pub pushed : draft ≡ start ++ ranges i cells
+  pub short : length (ranges i cells) ≤ 31 * i
+
+pub listing_start : (start : List ℕ) (cells : List Cell) → Listing start cells 0 start
+unfolding joined
+listing_start start cells = record { pushed = sym (append-nil start); short = omega arith }
+
+-- one range more
+pub listing_next : {start d e f : List ℕ} {cells : List Cell} {i : ℕ} (other : Cell) → i < length cells → Listing start cells i d → e ≡ d ++ gap i → f ≡ e ++ cell (get_or cells i other) → length (cell (get_or cells i other)) ≤ 29
+    → Listing start cells (i + 1) f
+listing_next {start} {d} {e} {f} {cells} {i} other h x p q small = record {
+  pushed = rw (ranges_next i cells other h) (grind (arith, append_assoc));
+  short = rw (ranges_next i cells other h) (omega (arith, x.short, gap_short i, length-append (ranges i cells) (gap i ++ cell (get_or cells i other)), length-append (gap i) (cell (get_or cells i other))));
 }
-
--- a draft keeps its length
-pub put_length : {d e a : List ℕ} {at p : ℕ} → Put d at a p e → length e ≡ length d
-put_length {d} {e} {a} {at} x = ap length x.draft ∙ length-sets d at a
-
--- the loop that copies: its start, a turn, its end
-pub put_start : (d : List ℕ) (at : ℕ) → Put d at [] (at + 0) d
-put_start d at = record { place = refl; draft = refl }
-
-pub put_next : {d e : List ℕ} {at : ℕ} (s : List ℕ) (i : ℕ) → i < length s → Put d at (take i s) (at + i) e → Put d at (take (i + 1) s) (at + (i + 1)) (set e (at + i) (get_or s i 0))
-put_next {d} {e} {at} s i h x = rw (add-one, take-suc s i 0) (record { place = omega (arith, y.place); draft = y.draft })
   where
-    y : Put d at (take i s ++ (get_or s i 0 ∷ [])) (at + i + 1) (set e (at + i) (get_or s i 0))
-    y = and_then x (put_one e (at + i) (get_or s i 0))
+    gap_short : (k : ℕ) → length (gap k) ≤ 2
+    gap_short zero = omega arith
+    gap_short (suc k) = omega arith
 
-pub put_all : {d e : List ℕ} {at : ℕ} (s : List ℕ) (i : ℕ) → i ≤ length s → length s ≤ i → Put d at (take i s) (at + i) e → Put d at s (at + i) e
-put_all {d} {e} {at} s i h l x = subst (λ (t : List ℕ). Put d at t (at + i) e) (take_all i s l) x
-
--- bytes put from the front stand there, and the rest is as it was
-pub put_front : {d e : List ℕ} {p : ℕ} (s : List ℕ) → length s ≤ length d → Put d 0 s p e → e ≡ s ++ drop (length s) d
-put_front {d} s h x = let e : 0 + length s ≡ length s = omega arith in x.draft ∙ sets-eq s d 0 (omega arith) ∙ ap (λ (k : ℕ). s ++ drop k d) e
-
-pub put_taken : {d e : List ℕ} {p : ℕ} (s : List ℕ) → p ≤ length d → Put d 0 s p e → take p e ≡ s
-put_taken {d} {e} {p} s h x = ap (take p) (put_front s (omega (arith, x.place)) x) ∙ take_at s (drop (length s) d) p (omega (arith, x.place))
+-- the ranges of all of the first n cells are those of the first n
+pub ranges_all : (n : ℕ) (cells : List Cell) → ranges (length (take (min n (length cells)) cells)) (take (min n (length cells)) cells) ≡ ranges n cells
+ranges_all n cells = rw (take_min n cells, take_all (length (take n cells)) (take n cells) (omega arith)) refl

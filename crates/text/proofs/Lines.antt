@@ -2,24 +2,22 @@
 use mathlib.Core.Path.{◌≡◌, refl, sym, ap, ap₂, ◌∙◌, subst}
 use mathlib.Core.Bool.{Bool, true, false, cond, ◌&&◌, false≢true}
 use mathlib.Core.List.{List, [], ◌∷◌, ◌++◌, map, append_assoc, head-eq_of_cons-eq, tail-eq_of_cons-eq}
+use Rattle.std.specs.Prelude.{Option, Some, None}
 use Prim.Native.Nat.{ℕ, ◌+◌, ◌*◌, ◌-◌, ◌≤◌, ◌<◌}
 use native.Mathlib.Omega.{arith}
 use lib.Dec.{leb, eqb}
 use lib.ListN.{get_or, take, get_or-map}
 use lib.Seq.{get_or-take}
 use borrow.Author.Tests.{le-leb, eqb-true}
-use Rattle.ranges.specs.declared.End.{End}
-use Rattle.ranges.specs.declared.End.TheVariants.{At, Open}
 use Rattle.ranges.specs.declared.Range.{Range}
 use Rattle.ranges.specs.declared.Range.TheVariants.{Empty, Span}
 use Rattle.ranges.specs.Ranges.{point}
 use Rattle.states.specs.declared.Cell.{Cell}
 use Rattle.states.specs.declared.State.{State}
-use Rattle.states.specs.Answers.{Answer, Gives, Refuses, answered}
+use Rattle.states.specs.Answers.{Answer, Gives, Refuses, outcome, answer_of}
 use Rattle.states.specs.States as states
 use Rattle.states.specs.States.{Fit}
 use Rattle.states.proofs.Fits.{alike}
-use Rattle.text.specs.Answers.{of_answer}
 use Rattle.text.specs.Grammar.{digit_is, both, left, right, Many, none, next, DIGIT, Int, decimal}
 use Rattle.text.specs.Line.{ascii, digits, to_end, range, further, joined, cell, refusal, line}
 use Rattle.text.specs.Tells.{Told, refuses, nothing, ranges, ranges_of, told}
@@ -72,10 +70,10 @@ digits_once x y t u p q e =
 
 -- ---- ranges
 
-end_stops : (start : ℕ) (end : End) (t : List ℕ) → Stops (to_end start end ++ t)
+end_stops : (start : ℕ) (end : Option ℕ) (t : List ℕ) → Stops (to_end start end ++ t)
 unfolding to_end
-end_stops start Open t = record { value = λ n. refl; rest = refl }
-end_stops start (At end) t = go (eqb start end)
+end_stops start None t = record { value = λ n. refl; rest = refl }
+end_stops start (Some end) t = go (eqb start end)
   where
     go : (same : Bool) → Stops (cond same (ascii "}") (ascii ", ..., " ++ digits end ++ ascii "}") ++ t)
     go true = record { value = λ n. refl; rest = refl }
@@ -98,12 +96,12 @@ closing_once false false start x y p q t u h =
     let r = digits_once x y (ascii "}" ++ t) (ascii "}" ++ u) (record { value = λ n. refl; rest = refl }) (record { value = λ n. refl; rest = refl }) (sym (append_assoc (digits x) (ascii "}") t) ∙ k ∙ append_assoc (digits y) (ascii "}") u) in
     (r.0, tail-eq_of_cons-eq r.1)
 
-end_once : (start : ℕ) (e f : End) (t u : List ℕ) → to_end start e ++ t ≡ to_end start f ++ u → (e ≡ f) × (t ≡ u)
+end_once : (start : ℕ) (e f : Option ℕ) (t u : List ℕ) → to_end start e ++ t ≡ to_end start f ++ u → (e ≡ f) × (t ≡ u)
 unfolding to_end
-end_once start Open Open t u h = (refl, cc)
-end_once start Open (At y) t u h = absurd (open_once (eqb start y) y t u h)
-end_once start (At x) Open t u h = absurd (open_once (eqb start x) x u t (sym h))
-end_once start (At x) (At y) t u h = let r = closing_once (eqb start x) (eqb start y) start x y refl refl t u h in (ap At r.0, r.1)
+end_once start None None t u h = (refl, cc)
+end_once start None (Some y) t u h = absurd (open_once (eqb start y) y t u h)
+end_once start (Some x) None t u h = absurd (open_once (eqb start x) x u t (sym h))
+end_once start (Some x) (Some y) t u h = let r = closing_once (eqb start x) (eqb start y) start x y refl refl t u h in (ap Some r.0, r.1)
 
 -- a range is told from what is printed, and so is what follows
 range_once : (r q : Range) (t u : List ℕ) → range r ++ t ≡ range q ++ u → (r ≡ q) × (t ≡ u)
@@ -140,10 +138,10 @@ map_cells (c ∷ cs) = ap (λ (l : List (List ℕ)). range c.range ∷ l) (map_c
 
 line_printing : (n : ℕ) (a : Answer State) → line n a ≡ printing (told n a)
 line_printing n (Refuses number place) = refl
-line_printing n (Gives s) = go s.live
+line_printing n (Gives s) = go (states.is_live s)
   where
-    go : (b : Bool) → cond b (joined (map cell (take n s.cells))) (ascii "empty") ++ ascii "\n" ≡ printing (cond b (ranges (ranges_of n s)) nothing)
-    go true = ap (λ (l : List (List ℕ)). joined l ++ ascii "\n") (map_cells (take n s.cells))
+    go : (b : Bool) → cond b (joined (map cell (take n (states.cells s)))) (ascii "empty") ++ ascii "\n" ≡ printing (cond b (ranges (ranges_of n s)) nothing)
+    go true = ap (λ (l : List (List ℕ)). joined l ++ ascii "\n") (map_cells (take n (states.cells s)))
     go false = refl
 
 -- a line of ranges begins with `{` or a byte over it, and so with no letter
@@ -188,17 +186,17 @@ line_told n a b h = printing_once (told n a) (told n b) (sym (line_printing n a)
 
 told_once : (b c : Bool) (rs qs : List Range) → cond b (ranges rs) nothing ≡ cond c (ranges qs) nothing → (b ≡ c) × (b ≡ true → rs ≡ qs)
 told_once true true rs qs h = (refl, λ _. cc)
-told_once true false rs qs h = let z : ◌≡◌ {A = ℕ} 0 1 = cc in absurd (omega arith)
-told_once false true rs qs h = let z : ◌≡◌ {A = ℕ} 0 1 = cc in absurd (omega arith)
+told_once true false rs qs h = absurd cc
+told_once false true rs qs h = absurd cc
 told_once false false rs qs h = (refl, λ e. absurd (false≢true e))
 
 get_of : (n v : ℕ) (s : State) → v < n → get_or (ranges_of n s) v (point 0) ≡ states.get s v
-get_of n v s h = get_or-map (λ c. c.range) (take n s.cells) v (states.cell (point 0)) ∙ ap (λ (c : Cell). c.range) (get_or-take n s.cells v (states.cell (point 0)) h)
+get_of n v s h = get_or-map (λ c. c.range) (take n (states.cells s)) v (states.cell (point 0)) ∙ ap (λ (c : Cell). c.range) (get_or-take n (states.cells s) v (states.cell (point 0)) h)
 
 -- the line of a state determines whether it is empty, and the range of each variable
-pub line_ranges : (n : ℕ) (s t : State) → line n (Gives s) ≡ line n (Gives t) → (s.live ≡ t.live) × (s.live ≡ true → (v : ℕ) → v < n → states.get s v ≡ states.get t v)
+pub line_ranges : (n : ℕ) (s t : State) → line n (Gives s) ≡ line n (Gives t) → (states.is_live s ≡ states.is_live t) × (states.is_live s ≡ true → (v : ℕ) → v < n → states.get s v ≡ states.get t v)
 line_ranges n s t h =
-    let r = told_once s.live t.live (ranges_of n s) (ranges_of n t) (line_told n (Gives s) (Gives t) h) in
+    let r = told_once (states.is_live s) (states.is_live t) (ranges_of n s) (ranges_of n t) (line_told n (Gives s) (Gives t) h) in
     (r.0, λ l v k. sym (get_of n v s k) ∙ ap (λ (rs : List Range). get_or rs v (point 0)) (r.1 l) ∙ get_of n v t k)
 
 -- two different states of n variables print different lines
@@ -206,6 +204,6 @@ pub line_state : (n : ℕ) (s t : State) → Fit n s → Fit n t → line n (Giv
 line_state n s t f g h = let r = line_ranges n s t h in alike n s t f g r.0 r.1
 
 -- an answer as the code has it is printed as that answer
-pub of_answered : (a : Answer State) → of_answer (answered a) ≡ a
-of_answered (Gives s) = refl
-of_answered (Refuses number place) = refl
+pub of_outcome : (a : Answer State) → answer_of (outcome a) ≡ a
+of_outcome (Gives s) = refl
+of_outcome (Refuses number place) = refl

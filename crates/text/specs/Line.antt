@@ -1,13 +1,12 @@
 -- The line that the program prints, byte by byte.
-use Rattle.std.specs.Prelude.{◌≡◌, true, false, cond, List, [], ◌∷◌, ◌++◌, map, ℕ, zero, suc, ◌+◌, ◌/◌, ◌%◌, ltb, eqb, length, take}
+use Rattle.std.specs.Prelude.{◌≡◌, true, false, cond, List, [], ◌∷◌, ◌++◌, map, Option, Some, None, ℕ, zero, suc, ◌+◌, ◌/◌, ◌%◌, ltb, eqb, length, take}
 use Prim.Native.Char.{code}
 use Prim.Native.String.{String, [] as nothing, ◌∷◌ as ◌before◌}
-use Rattle.ranges.specs.declared.End.{End}
-use Rattle.ranges.specs.declared.End.TheVariants.{At, Open}
 use Rattle.ranges.specs.declared.Range.{Range}
 use Rattle.ranges.specs.declared.Range.TheVariants.{Empty, Span}
 use Rattle.states.specs.declared.Cell.{Cell}
 use Rattle.states.specs.declared.State.{State}
+use Rattle.states.specs.States.{is_live, cells}
 use Rattle.states.specs.Answers.{Answer, Gives, Refuses}
 use Rattle.text.specs.Grammar.{Int, decimal}
 use Rattle.text.specs.Answers.{Outcome, refused, done}
@@ -33,9 +32,9 @@ pub record Writes (s : List ℕ) (x : ℕ) : Type 0 where
   pub value : decimal 0 values ≡ x
 
 -- What follows a range's start: "{a}, {a, ..., b} or {a, ...}".
-unfoldable pub to_end : ℕ → End → List ℕ
-to_end start (At end) = cond (eqb start end) (ascii "}") (ascii ", ..., " ++ digits end ++ ascii "}")
-to_end start Open = ascii ", ...}"
+unfoldable pub to_end : ℕ → Option ℕ → List ℕ
+to_end start (Some end) = cond (eqb start end) (ascii "}") (ascii ", ..., " ++ digits end ++ ascii "}")
+to_end start None = ascii ", ...}"
 
 -- A range; an Empty one, which no state that is not empty has, is genfer's ∅ in UTF-8.
 unfoldable pub range : Range → List ℕ
@@ -58,11 +57,11 @@ cell c = range c.range
 
 -- "the ranges in order" of the first n cells, or of all where n is more than there are
 abbrev pub ranges : ℕ → List Cell → List ℕ
-ranges n cells = joined (map cell (take n cells))
+ranges n cs = joined (map cell (take n cs))
 
 -- "`empty` for an empty state, also where n = 0; an empty line for any other state of no variables"
 abbrev pub state : ℕ → State → List ℕ
-state n s = cond s.live (ranges n s.cells) (ascii "empty")
+state n s = cond (is_live s) (ranges n (cells s)) (ascii "empty")
 
 -- "or `refused N at P`"
 abbrev pub refusal : ℕ → ℕ → List ℕ

@@ -1,10 +1,6 @@
 -- What the rest of the text holds, behind what was passed.
-use Rattle.std.proofs.Common.{length, ◌-◌}
 use Rattle.text.proofs.Passes.{Passing}
 use Rattle.text.proofs.reader.pass.Given as goal
 
 abbrev pub invariant-loop-i : goal.invariant-loop-i
-invariant-loop-i l = Passing l.text l.initial.words l.words l.m l.n l.i
-
-abbrev pub decreases-loop-i : goal.decreases-loop-i
-decreases-loop-i l = length l.text - l.i
+invariant-loop-i l = Passing l.text l.initial.words l.words l.mode l.count l.i
