@@ -2,14 +2,12 @@
 // Prints each program whose line is another, and how many agree and how many differ.
 #![tactic(auto)]
 
-ghost use Rattle.std.specs.Prelude.{◌≡◌, true, ◌≤◌, length};
+ghost use Rattle.std.specs.Prelude.{◌≡◌, ◌==◌, true, ◌≤◌, length, position};
 ghost use Rattle.replay.specs.Records as records;
 ghost use Rattle.replay.specs.Records.{Line, Prints, Replayed};
 
 use std::fs::File;
 use std::io;
-use std::io::Read;
-use text::Printed;
 
 // How many recorded lines are the printed ones, and how many are not.
 #[derive(Clone, Copy)]
@@ -18,26 +16,24 @@ struct Tally {
     differ: u64,
 }
 
-// Where the line that begins at `from` ends: at its line feed, or at the list's end.
-fn line_end(list: &[u8], from: usize) -> usize
-    requires { from ≤ length list.now }
-    ensures { Line list.now from result }
+// Where the first line feed is.
+fn line_feed(bytes: &[u8]) -> Option<usize>
+    ensures { result ≡ position (λ b. b == 0x0A) bytes.now }
 {
-    let mut at = from;
-    while at < list.len() {
-        if list[at] == b'\n' {
-            return at;
-        }
-        at += 1;
-    }
-    at
+    bytes.iter().position(|b| *b == b'\n')
 }
 
-// Where the line after the one that ends at `end` begins: after the line feed, or at the list's end.
-fn next(list: &[u8], end: usize) -> usize
-    ensures { result ≡ records.next list.now end }
+// The line that begins at `from`: where it ends, at its line feed or at the list's end, and where the one after it begins.
+#[tactic(auto, using(crate::proofs::Lines::line_last))]
+fn line_at(list: &[u8], from: usize) -> (usize, usize)
+    requires { from ≤ length list.now }
+    ensures ends { Line list.now from result.0 }
+    ensures next { result.1 ≡ records.next list.now result.0 }
 {
-    if end < list.len() { end + 1 } else { end }
+    match line_feed(&list[from..]) {
+        Some(length) => (from + length, from + length + 1),
+        None => (list.len(), list.len()),
+    }
 }
 
 // Prints a record whose line is not the printed one.
@@ -51,14 +47,12 @@ fn tell(rt: &impl Print, text: &[u8], line: &[u8], printed: &[u8]) -> io::Result
 }
 
 // Whether `line`, with its line feed, is what is printed for `text`. If not, the three are told.
+#[tactic(auto, using(crate::proofs::Lines::compares))]
 fn agrees(rt: &impl Print, text: &[u8], line: &[u8]) -> bool
     ensures { (result ≡ true → Prints text.now line.now) × (Prints text.now line.now → result ≡ true) }
 {
     let mut out = [0; 2048];
-    let answer = woolquern::run(text, &mut out);
-    let Printed::Wrote(count) = answer else {
-        return false;
-    };
+    let count = woolquern::run(text, &mut out).unwrap();
     let printed = &out[..count];
     let same = printed == line;
     if !same {
@@ -69,6 +63,7 @@ fn agrees(rt: &impl Print, text: &[u8], line: &[u8]) -> bool
 }
 
 // Replays every program of the list.
+#[tactic(auto, using(crate::proofs::Lines::none_passed))]
 fn replayed(rt: &impl Print, list: &[u8]) -> Tally
     ensures { Replayed list.now (length list.now) result.agree result.differ }
 {
@@ -78,10 +73,8 @@ fn replayed(rt: &impl Print, list: &[u8]) -> Tally
     };
     let mut at = 0;
     while at < list.len() {
-        let text_end = line_end(list, at);
-        let line = next(list, text_end);
-        let line_end = line_end(list, line);
-        let then = next(list, line_end);
+        let (text_end, line) = line_at(list, at);
+        let (_, then) = line_at(list, line);
         if agrees(rt, &list[at..text_end], &list[line..then]) {
             tally.agree += 1;
         } else {
@@ -99,24 +92,10 @@ fn room() -> [u8; 2097152]
     [0; 2097152]
 }
 
-// Reads until the list is full, the file ends or a read fails, and tells how many bytes it put at the list's start.
-fn read_full(file: &mut File, list: &mut [u8]) -> usize
-    ensures { result ≤ length list.new }
-{
-    let mut done = 0;
-    while done < list.len() {
-        match file.read(&mut list[done..]) {
-            Ok(count) if 0 < count => done += count,
-            _ => break,
-        }
-    }
-    done
-}
-
 fn main(rt: HostRuntime) -> io::Result<()> {
     let mut file = File::open(&rt, "answers.txt")?;
     let mut list = room();
-    let length = read_full(&mut file, &mut list);
+    let length = input::read_full(&mut file, &mut list);
     let Tally { agree, differ } = replayed(&rt, &list[..length]);
     println!(rt; "{agree} agree, {differ} differ")
 }

@@ -1,4 +1,6 @@
+pub mod Room
 pub mod Jobs
 pub mod Kept
-pub mod Settled
 pub mod Only
+pub mod Ways
+pub mod LoopWays

@@ -1,39 +1,30 @@
--- What the analysis of words hands back, as the job has it.
-use Rattle.std.specs.Prelude.{cond, ℕ, ltb, take}
-use Rattle.states.specs.Answers.{Answer, Gives, Refuses, and_then}
-use Rattle.states.specs.declared.Verdict.{Verdict}
-use Rattle.states.specs.declared.Verdict.TheVariants.{Good, Refused}
-use Rattle.analysis.specs.declared.Marked.{Marked}
-use Rattle.analysis.specs.declared.LoopAnswer.{LoopAnswer}
-use Rattle.text.specs.Answers.{of_answer}
-use Rattle.woolquern.specs.Job.{Entered, Loop}
+-- What the code hands back, as the job has it.
+use Rattle.std.specs.Prelude.{List, ℕ, take}
+use Rattle.states.specs.Answers.{Answer, Gives, and_then}
+use Rattle.paper.specs.Answers.{as_answer}
+use Rattle.paper.specs.Reader as reader
+use Rattle.paper.specs.Used.{used}
+use Rattle.analysis.specs.Outcomes.{a_loop}
+use Rattle.woolquern.specs.declared.Program as code_program
+use Rattle.woolquern.specs.declared.marks.Entered as code_entered
+use Rattle.woolquern.specs.declared.loops.Loop as code_loop
+use Rattle.woolquern.specs.Job.{words_of, Entered, Loop}
 
--- the answer for n variables and the marks of so many words, with room for so many
-abbrev pub found_in : Marked → ℕ → ℕ → ℕ → Answer Entered
-found_in found n count room =
-    and_then (of_answer found.answer) (λ s.
-    cond (ltb room count) (Refuses 2 0) (Gives (record { outcome = record { n = n; state = s }; marks = take count found.marks })))
+-- words that are a program, and how many variables they use
+pub record Program : Type 0 where
+  pub words : List ℕ
+  pub n : ℕ
 
--- what a loop gave, by its verdict
-abbrev pub loop_by : Verdict → Loop → Answer Loop
-loop_by Good l = Gives l
-loop_by (Refused number place) l = Refuses number place
+-- the program that a text holds: its words are checked with n = 64
+abbrev pub held : List ℕ → Answer Program
+held text = and_then (words_of text) (λ ws. as_answer (reader.program ws 64) (λ p. Gives (record { words = ws; n = used p })))
 
--- all that the code has beside the verdict
-abbrev pub all_of : LoopAnswer → ℕ → Loop
-all_of found n = record {
-  n = n;
-  looped = record {
-    exits = found.exits;
-    turned = found.turned;
-    settled = found.settled;
-    searched = found.searched;
-    unrolls = found.unrolls;
-    joined = found.joined;
-    widened = found.widened;
-  };
-}
+abbrev pub program : code_program.Program → Program
+program p = record { words = p.words.now; n = p.n }
 
--- the same of the verdict and all else that the code has side by side
-abbrev pub loop_of : LoopAnswer → ℕ → Answer Loop
-loop_of found n = loop_by found.verdict (all_of found n)
+-- the marks are those of so many words
+abbrev pub entered : code_entered.Entered → Entered
+entered e = record { outcome = record { n = e.n; state = e.found.state }; marks = take e.count e.found.marks }
+
+abbrev pub looped : code_loop.Loop → Loop
+looped l = record { n = l.n; looped = a_loop l.found }

@@ -9,7 +9,7 @@ use Rattle.paper.specs.Trace.{mark}
 use Rattle.paper.specs.Used.{used}
 use Rattle.text.specs.Answers as text
 use Rattle.text.specs.Machine.{Contents, holds, breaks, contents}
-use Rattle.text.specs.declared.Mode.TheVariants.{Start}
+use Rattle.text.specs.declared.reader.Mode.TheVariants.{Start}
 use Rattle.text.specs.Line as lines
 
 -- the words that bytes hold: 1 at the place where they break off, 2 for more than 8,192

@@ -4,102 +4,75 @@
 mod loops;
 mod marks;
 
-ghost use Rattle.std.specs.Prelude.{◌≡◌, ◌≤◌, ◌<◌, length};
-ghost use Rattle.paper.specs.Answers as answers;
+ghost use Rattle.std.specs.Prelude.{◌≡◌, ◌*◌, ◌≤◌, ◌<◌, length, min};
+ghost use Rattle.analysis.specs.Outcomes.{answer_by};
 ghost use Rattle.states.specs.States as states;
 ghost use Rattle.text.specs.Answers.{leaves, of_printed};
-ghost use Rattle.text.specs.Line.{printed};
-ghost use Rattle.text.specs.declared.Printed.TheVariants.{Short};
+ghost use Rattle.woolquern.specs.Found as found;
 ghost use Rattle.woolquern.specs.Job as job;
 
 pub use loops::run_loop;
 pub use marks::run_marked;
-use ranges::{End, Range};
-use states::{Cell, Start};
-use text::{Found, Printed};
-use words::Checked;
+use states::{Cell, Fault, Refusal, Start};
+
+// Words that are a program, and how many variables they use.
+struct Program<'a> {
+    words: &'a [u64],
+    n: usize,
+}
 
 // Every variable starts at [0,0].
 fn zeros() -> Start
     ensures { result.cells ≡ states.zeros }
 {
-    let blank = Cell {
-        range: Range::Span(0, End::At(0)),
-    };
-    Start { cells: [blank; 64] }
-}
-
-// Prints a refusal.
-fn refuse(number: u64, place: usize, out: &mut [u8]) -> Printed
-    ensures what_is_left { leaves (of_printed result) out.new ≡ printed (job.refusal number place) out.old }
-    ensures out_len_bound { result ≡ Short → length out.old < 2048 }
-{
-    text::line(states::refused(number, place), 0, out)
-}
-
-// The line for a list of words.
-fn run_words(words: &[u64], out: &mut [u8]) -> Printed
-    ensures what_is_left { leaves (of_printed result) out.new ≡ printed (job.line_of (answers.ran words.now)) out.old }
-    ensures out_len_bound { result ≡ Short → length out.old < 2048 }
-{
-    if 8192 < words.len() {
-        return refuse(4, 0, out);
-    }
-    match words::check(words, 64) {
-        Checked::Refused(number, place) => refuse(number, place, out),
-        Checked::Sound(n) => {
-            let answer = analysis::analyse(words, n, zeros(), 0);
-            text::line(answer, n, out)
-        }
+    Start {
+        cells: [Cell::blank(); 64],
     }
 }
 
-// The line for a text that may hold 8,192 words.
-fn run_long(text: &[u8], out: &mut [u8]) -> Printed
-    requires { length text.now ≤ 65536 }
-    ensures what_is_left { leaves (of_printed result) out.new ≡ job.run text.now out.old }
-    ensures out_len_bound { result ≡ Short → length out.old < 2048 }
-{
-    let mut words = [0; 8192];
-    match text::pass(text, &mut words) {
-        Found::Breaks(place) => refuse(1, place, out),
-        Found::Holds(count) => {
-            if 8192 < count {
-                return refuse(2, 0, out);
-            }
-            run_words(&words[..count], out)
-        }
-    }
-}
-
-// The line for a short text, which need not pay for clearing 8,192 words.
-fn run_short(text: &[u8], out: &mut [u8]) -> Printed
-    requires { length text.now ≤ 65536 }
-    ensures what_is_left { leaves (of_printed result) out.new ≡ job.run text.now out.old }
-    ensures out_len_bound { result ≡ Short → length out.old < 2048 }
-{
-    let mut words = [0; 256];
-    match text::pass(text, &mut words) {
-        Found::Breaks(place) => refuse(1, place, out),
-        Found::Holds(count) => {
-            if 256 < count {
-                return run_long(text, out);
-            }
-            run_words(&words[..count], out)
-        }
-    }
-}
-
-// Prints the line for a text: how many bytes, or that the buffer is shorter, and then it is left as it was. 2,048 bytes are always enough.
-pub fn run(text: &[u8], out: &mut [u8]) -> Printed
-    ensures what_is_left { leaves (of_printed result) out.new ≡ job.run text.now out.old }
-    ensures out_len_bound { result ≡ Short → length out.old < 2048 }
+// The program that a text holds. Its words go into the lent ones, of which there is to be one for every two bytes, or 8,192: a text has no more.
+#[tactic(auto, using(crate::proofs::Jobs::front_count, crate::proofs::Jobs::front_words), unfolding(words::specs::Words::checked))]
+fn read<'a>(text: &[u8], words: &'a mut [u64]) -> Result<Program<'a>, Refusal>
+    requires { min (length text.now) 16384 ≤ 2 * length words.old }
+    ensures { answer_by found.program result ≡ found.held text.now }
 {
     if 65536 < text.len() {
-        return refuse(2, 0, out);
+        return Err(Fault::TooLong.at(0));
     }
-    if 512 < text.len() {
-        return run_long(text, out);
+    let count = text::pass(text, words)?;
+    if 8192 < count {
+        return Err(Fault::TooLong.at(0));
     }
-    run_short(text, out)
+    let words = &words[..count];
+    let n = words::check(words, 64)?;
+    Ok(Program { words, n })
+}
+
+// Prints the line for a text, its words in the lent ones.
+#[tactic(auto, unfolding(paper::specs::Answers::ran))]
+fn run_with(text: &[u8], words: &mut [u64], out: &mut [u8]) -> Option<usize>
+    requires { min (length text.now) 16384 ≤ 2 * length words.old }
+    ensures what_is_left { leaves (of_printed result) out.new ≡ job.run text.now out.old }
+    ensures out_len_bound { result ≡ None → length out.old < 2048 }
+{
+    match read(text, words) {
+        Ok(Program { words, n }) => {
+            let answer = analysis::analyse(words, n, &zeros(), 0);
+            text::line(&answer, n, out)
+        }
+        Err(refusal) => text::line(&Err(refusal), 0, out),
+    }
+}
+
+// Prints the line for a text: how many bytes, or none where the buffer is shorter, and then it is left as it was. 2,048 bytes are always enough.
+pub fn run(text: &[u8], out: &mut [u8]) -> Option<usize>
+    ensures what_is_left { leaves (of_printed result) out.new ≡ job.run text.now out.old }
+    ensures out_len_bound { result ≡ None → length out.old < 2048 }
+{
+    if text.len() <= 512 {
+        // A short text need not pay for clearing 8,192 words.
+        run_with(text, &mut [0; 256], out)
+    } else {
+        run_with(text, &mut [0; 8192], out)
+    }
 }

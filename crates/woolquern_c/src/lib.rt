@@ -2,30 +2,16 @@
 #![tactic(auto)]
 
 ghost use Rattle.std.specs.Prelude.{◌≡◌, ◌<◌, length};
-ghost use Rattle.text.specs.Answers.{of_printed};
 ghost use Rattle.woolquern.specs.Job as job;
 
-use text::Printed;
-
-// How many bytes were written; 0 where the buffer was too short, since no line has none.
-fn written(printed: Printed) -> usize
-    ensures { result ≡ job.written (of_printed printed) }
-{
-    match printed {
-        Printed::Wrote(count) => count,
-        Printed::Short => 0,
-    }
-}
-
-// Prints the line for a text into out; 2,048 bytes are always enough.
+// Prints the line for a text into out: how many bytes were written, or 0 where the buffer was too short, since no line has none. 2,048 bytes are always enough.
 #[unsafe(no_mangle)]
 pub extern "C" fn woolquern_run(text: &[u8], out: &mut [u8]) -> usize
     ensures value { result ≡ job.written (job.run text.now out.old).answer }
     ensures out_after { out.new ≡ (job.run text.now out.old).buffer }
     ensures out_len_bound { result ≡ 0 → length out.old < 2048 }
 {
-    let printed = woolquern::run(text, out);
-    written(printed)
+    woolquern::run(text, out).unwrap_or(0)
 }
 
 // The same, and for each word a byte into marks: 1 at the count of a list that is entered.
@@ -36,8 +22,7 @@ pub extern "C" fn woolquern_marks(text: &[u8], marks: &mut [u8], out: &mut [u8])
     ensures out_after { out.new ≡ (job.run_marked text.now marks.old out.old).printing.buffer }
     ensures out_len_bound { result ≡ 0 → length out.old < 2048 }
 {
-    let printed = woolquern::run_marked(text, marks, out);
-    written(printed)
+    woolquern::run_marked(text, marks, out).unwrap_or(0)
 }
 
 // The same for one loop, with the four counts of passes into counts and the settled state's line into settled.
@@ -55,6 +40,5 @@ pub extern "C" fn woolquern_loop(
     ensures out_after { out.new ≡ (job.run_loop text.now unroll counts.old settled.old out.old).printing.buffer }
     ensures out_len_bound { result ≡ 0 → length out.old < 2048 }
 {
-    let printed = woolquern::run_loop(text, unroll, counts, settled, out);
-    written(printed)
+    woolquern::run_loop(text, unroll, counts, settled, out).unwrap_or(0)
 }
