@@ -7,13 +7,14 @@ use Prim.Native.Nat.{ℕ, ◌+◌, ◌*◌, ◌≤◌, ◌<◌}
 use native.Mathlib.Omega.{arith}
 use native.Mathlib.Decide.{dec_le}
 use lib.ListN.{length, get_or, replicate, length-replicate}
+use Rattle.std.specs.Prelude.{Result, Ok, Err}
 use Rattle.ranges.specs.declared.Range.{Range}
 use Rattle.ranges.specs.Ranges as ranges
 use Rattle.states.specs.declared.State.{State}
 use Rattle.states.specs.declared.Cell.{Cell}
-use Rattle.states.specs.declared.Verdict.TheVariants.{Good, Refused}
-use Rattle.states.specs.declared.Answer as code
-use Rattle.states.specs.Answers.{Answer, Gives, Refuses, answered}
+use Rattle.states.specs.declared.State.TheVariants as state
+use Rattle.states.specs.declared.Refusal.{Refusal}
+use Rattle.states.specs.Answers.{Answer, Gives, Refuses, and_then, outcome, answer_of, refusal}
 use Rattle.states.specs.States as states
 use Rattle.states.specs.Starts as starts
 use Rattle.states.proofs.Starts.{Begun, Said, too_many, lowest, one_empty, as_given, started_says}
@@ -47,51 +48,84 @@ use Rattle.words.proofs.Unique.{code_injective}
 use Rattle.words.proofs.Exact.{sound_is_program, program_is_sound}
 use Rattle.analysis.specs.declared.Marked.{Marked}
 use Rattle.analysis.specs.declared.LoopAnswer.{LoopAnswer}
-use Rattle.analysis.specs.Entries.{begun}
-use Rattle.analysis.specs.Outcomes.{looped}
-use Rattle.analysis.proofs.Says.{answered_good, answered_refused}
-use Rattle.analysis.proofs.Entries.{too_long, too_wide, too_deep, let_in, analysed_unadmitted, analysed_bad, analysed_read, entered_none, marks_none}
-use Rattle.analysis.proofs.Entries.{begins_none, begins_other, begins_short, begins_unlike, begins_loop, looped_unbegun, looped_read}
+use Rattle.analysis.specs.Outcomes.{answer_by, a_loop, looped}
+use Rattle.certainties.proofs.Entries.{too_long, too_wide, too_deep, let_in, analysed_unadmitted, analysed_bad, analysed_read}
+use Rattle.certainties.proofs.Entries.{begins_none, begins_other, begins_short, begins_unlike, begins_loop, looped_unbegun, looped_read}
 use Rattle.certainties.proofs.Numbers.{every_number}
 use Rattle.certainties.specs.Certainties as page
 use Rattle.certainties.specs.Certainties.{Input, Analyse, AnalyseMarked, AnalyseLoop, One, Certainties}
 
+-- ---- results and answers
+
+back : {A : Type 0} (a : Answer A) → answer_of (outcome a) ≡ a
+back (Gives x) = refl
+back (Refuses number place) = refl
+
+answered_good : {A : Type 0} (a : Answer A) {s : A} → Ok s ≡ outcome a → a ≡ Gives s
+answered_good a e = sym (ap answer_of e ∙ back a)
+
+loop_back : (a : Answer Looped) → answer_by a_loop (looped a) ≡ a
+loop_back (Gives l) = refl
+loop_back (Refuses number place) = refl
+
+-- an answer with marks
+with_marks : List ℕ → Answer State → page.MarkedAnswer
+with_marks marks a = outcome (and_then a (λ s. Gives (record { state = s; marks = marks })))
+
+without_marks : (marks : List ℕ) (a : Answer State) → page.unmarked (with_marks marks a) ≡ outcome a
+unfolding with_marks
+without_marks marks (Gives s) = refl
+without_marks marks (Refuses number place) = refl
+
+marks_in : List ℕ → page.MarkedAnswer → List ℕ
+marks_in none (Ok m) = m.marks
+marks_in none (Err r) = none
+
+marks_of : (marks : List ℕ) (a : Answer State) (m : Marked) → Ok m ≡ with_marks marks a → m.marks ≡ marks
+unfolding with_marks marks_in
+marks_of marks (Gives s) m e = ap (marks_in marks) e
+marks_of marks (Refuses number place) m e = absurd (let z : ◌≡◌ {A = ℕ} 0 1 = cc in omega arith)
+
 -- ---- 1. Always an answer
 
 pub is_state : {n : ℕ} (s : State) → Begun n s → page.IsState n s
-is_state {n} s b = go s.live refl
-  where
-    go : (l : Bool) → s.live ≡ l → page.IsState n s
-    go true q = page.each_a_range q (λ v h. (b.fit.full q v h, b.proper v h)) b.fit.rest
-    go false q = subst (page.IsState n) (sym (b.fit.bare q)) page.empty
+is_state state.Empty b = page.empty
+is_state (state.Live cs) b = page.each_a_range refl (λ v h. (b.fit.full refl v h, b.proper v h)) b.fit.rest
 
-answered_ends : {size n : ℕ} (a : Answer State) → Ends (Placed size n) (Begun n) a → page.Answered size n (answered a)
-answered_ends a (gives {a = s} b) = page.state (is_state s b)
-answered_ends a (refuses k at r) = page.refusal k at (placed_number r).0 (omega (arith, (placed_number r).1)) r
+outcome_answered : {size n : ℕ} (a : Answer State) → Ends (Placed size n) (Begun n) a → page.Answered size n (outcome a)
+outcome_answered a (gives {a = s} b) = page.state (is_state s b)
+outcome_answered a (refuses k at r) = page.refused k at (placed_number r).0 (omega (arith, (placed_number r).1)) r
 
 looped_answered : {size n : ℕ} (a : Answer Looped) → Ends (Placed size n) (Gone n) a → page.LoopAnswered size n (looped a)
-looped_answered a (gives {a = l} g) = page.loop refl (is_state l.exits g.exits) (is_state l.turned g.turned) (is_state l.settled g.settled)
-looped_answered a (refuses k at r) = page.refusal k at (placed_number r).0 (omega (arith, (placed_number r).1)) r
+looped_answered a (gives {a = l} g) = page.loop (is_state l.exits g.exits) (is_state l.turned g.turned) (is_state l.settled g.settled)
+looped_answered a (refuses k at r) = page.refused k at (placed_number r).0 (omega (arith, (placed_number r).1)) r
 
 checked_answered : {size : ℕ} (m : reader.Reading Statements) → Numbered size m → page.CheckAnswered size (checked m)
 unfolding checked
 checked_answered m (read {a = p} l) = page.sound _
 checked_answered m ended = page.short
-checked_answered m (bad k {at} l h inside) = page.refusal k at l h inside
+checked_answered m (bad k {at} l h inside) = page.refused k at l h inside
 
-analyse_answered : (i : Input) (r : code.Answer) → Analyse i r → page.Answered (length i.words) i.n r
-analyse_answered i r e = subst (page.Answered (length i.words) i.n) (sym e) (answered_ends _ (analysed_ends i.words i.n i.start.cells i.unroll i.sixty_four))
+analyse_answered : (i : Input) (r : page.Answer) → Analyse i r → page.Answered (length i.words) i.n r
+analyse_answered i r e = subst (page.Answered (length i.words) i.n) (sym e) (outcome_answered _ (analysed_ends i.words i.n i.start.cells i.unroll i.sixty_four))
 
-no_marks : (i : Input) (r : Marked) (number place : ℕ) → AnalyseMarked i r → r.answer.verdict ≡ Refused number place → r.marks ≡ replicate 8192 0
-no_marks i r number place e q =
-    let a = answered_refused (answers.analysed i.words i.n i.start.cells i.unroll) (ap (λ (m : Marked). m.answer) e) q in
-    ap (λ (m : Marked). m.marks) e ∙ sym (marks_none {marks = replicate 8192 0} (entered_none i.words i.n i.unroll i.start.cells a))
+marked_answered : (i : Input) (r : page.MarkedAnswer) → AnalyseMarked i r → page.Answered (length i.words) i.n (page.unmarked r)
+unfolding with_marks
+marked_answered i r e = analyse_answered i (page.unmarked r) (ap page.unmarked e ∙ without_marks _ (answers.analysed i.words i.n i.start.cells i.unroll))
+
+no_marks : (r : page.MarkedAnswer) (number place : ℕ) → page.unmarked r ≡ Err (refusal number place) → r ≡ Err (refusal number place)
+no_marks (Ok m) number place e = absurd (let z : ◌≡◌ {A = ℕ} 0 1 = cc in omega arith)
+no_marks (Err r) number place e = ap again e
+  where
+    again : page.Answer → page.MarkedAnswer
+    again (Ok s) = Err r
+    again (Err r) = Err r
 
 always_an_answer : page.AlwaysAnAnswer
 always_an_answer = record {
   analyse = analyse_answered;
-  analyse_marked = λ i r e. analyse_answered i r.answer (ap (λ (m : Marked). m.answer) e);
-  no_marks = no_marks;
+  analyse_marked = marked_answered;
+  no_marks = λ i r number place e. no_marks r number place;
   analyse_loop = λ i r e. subst (page.LoopAnswered (length i.words) i.n) (sym e) (looped_answered _ (looped_ends i.words i.n i.start.cells i.unroll i.sixty_four));
   check = λ words n r e. subst (page.CheckAnswered (length words)) (sym e) (checked_answered (reader.program words n) (program_numbered words n));
   every_number = every_number;
@@ -144,8 +178,8 @@ module _ (n : ℕ) (cs : List Cell) (long : length cs ≡ 64) (small : n ≤ 64)
 started : (i : Input) → page.Within i → answers.admitted i.words i.n i.unroll i.start.cells ≡ starts.started i.n i.start.cells
 started i w = sym (let_in i.words i.n i.unroll i.start.cells w.words w.variables w.unroll)
 
-over_a_limit : (i : Input) (r : code.Answer) → Analyse i r → (8192 < length i.words) ⊎ (64 < i.n) ⊎ (10000 < i.unroll) → r ≡ answered (Refuses 4 0)
-over_a_limit i r e over = e ∙ ap answered (analysed_unadmitted i.words i.n i.unroll i.start.cells (sym (go over (dec_le (length i.words) 8192) (dec_le i.n 64))))
+over_a_limit : (i : Input) (r : page.Answer) → Analyse i r → (8192 < length i.words) ⊎ (64 < i.n) ⊎ (10000 < i.unroll) → r ≡ Err (refusal 4 0)
+over_a_limit i r e over = e ∙ ap outcome (analysed_unadmitted i.words i.n i.unroll i.start.cells (sym (go over (dec_le (length i.words) 8192) (dec_le i.n 64))))
   where
     go : (8192 < length i.words) ⊎ (64 < i.n) ⊎ (10000 < i.unroll) → Dec (length i.words ≤ 8192) → Dec (i.n ≤ 64) → Refuses 4 0 ≡ answers.admitted i.words i.n i.unroll i.start.cells
     go o (no a) b = too_long i.words i.n i.unroll i.start.cells (omega arith)
@@ -159,21 +193,21 @@ is_read : {n : ℕ} {ws : List ℕ} (p : IsProgram n ws) → reader.program ws n
 is_read {n} {ws} p = ap (λ (l : List ℕ). reader.program l n) p.is ∙ code_is_read n p.tree p.within
 
 -- how a loop's own entry begins
-not_one : (ws : List ℕ) → (get_or ws 0 0 ≡ 1 → ⊥) → Refused 3 0 ≡ begun (answers.begins ws)
+not_one : (ws : List ℕ) → (get_or ws 0 0 ≡ 1 → ⊥) → answers.begins ws ≡ Refuses 3 0
 not_one [] h = begins_none [] refl
 not_one (x ∷ ws) h = begins_other (x ∷ ws) (omega arith) h
 
-no_loop : (ws : List ℕ) → get_or ws 0 0 ≡ 1 → (get_or ws 1 0 ≡ 5 → ⊥) → Refused 3 1 ≡ begun (answers.begins ws)
+no_loop : (ws : List ℕ) → get_or ws 0 0 ≡ 1 → (get_or ws 1 0 ≡ 5 → ⊥) → answers.begins ws ≡ Refuses 3 1
 no_loop [] one h = absurd (omega arith)
 no_loop (x ∷ []) one h = begins_short (x ∷ []) one refl
 no_loop (x ∷ y ∷ ws) one h = begins_unlike (x ∷ y ∷ ws) one (omega arith) h
 
-loop_begins : (ws : List ℕ) (u : Unroll) (e : Event) (b : Statements) → ws ≡ code_of.program (While u e b then done) → Good ≡ begun (answers.begins ws)
+loop_begins : (ws : List ℕ) (u : Unroll) (e : Event) (b : Statements) → ws ≡ code_of.program (While u e b then done) → answers.begins ws ≡ Gives tt
 unfolding code_of.count code_of.list code_of.statement
 loop_begins ws u e b is =
     begins_loop ws (ap (λ (l : List ℕ). get_or l 0 0) is) (omega (arith, ap length is)) (ap (λ (l : List ℕ). get_or l 1 0) is)
 
-loop_by_the_rules : (i : Input) (r : LoopAnswer) (s : State) (p : IsProgram i.n i.words) (u : Unroll) (e : Event) (b : Statements) → AnalyseLoop i r → page.Starts i s → p.tree ≡ (While u e b then done) →
+loop_by_the_rules : (i : Input) (r : page.LoopOutcome) (s : State) (p : IsProgram i.n i.words) (u : Unroll) (e : Event) (b : Statements) → AnalyseLoop i r → page.Starts i s → p.tree ≡ (While u e b then done) →
     r ≡ looped (analysed_at (page.setting i) (record { unroll = u; event = e; body = b; place = 1; from = s }))
 loop_by_the_rules i r s p u e b q start one =
     q
@@ -183,11 +217,11 @@ loop_by_the_rules i r s p u e b q start one =
 as_document_01_says : page.AsDocument01Says
 as_document_01_says = record {
   over_a_limit = over_a_limit;
-  start_over_end = λ i r v e w h q low. e ∙ ap answered (analysed_unadmitted i.words i.n i.unroll i.start.cells (started i w ∙ start_over_end i.n i.start.cells i.sixty_four w.variables v h q low));
+  start_over_end = λ i r v e w h q low. e ∙ ap outcome (analysed_unadmitted i.words i.n i.unroll i.start.cells (started i w ∙ start_over_end i.n i.start.cells i.sixty_four w.variables v h q low));
   as_given = λ i w fine. started i w ∙ starts_as_given i.n i.start.cells i.sixty_four w.variables fine;
   one_empty = λ i v w fine h e. started i w ∙ starts_empty i.n i.start.cells i.sixty_four w.variables v fine h e;
-  bad_word = λ i r s number place e start bad. e ∙ ap answered (analysed_bad i.words i.n i.unroll i.start.cells start bad);
-  by_the_rules = λ i r s p e start. e ∙ ap answered (analysed_read i.words i.n i.unroll i.start.cells start (is_read p));
+  bad_word = λ i r s number place e start bad. e ∙ ap outcome (analysed_bad i.words i.n i.unroll i.start.cells start bad);
+  by_the_rules = λ i r s p e start. e ∙ ap outcome (analysed_read i.words i.n i.unroll i.start.cells start (is_read p));
   not_one = λ i r s e start other. e ∙ ap looped (looped_unbegun i.words i.n i.unroll i.start.cells start (not_one i.words other));
   no_loop = λ i r s e start one other. e ∙ ap looped (looped_unbegun i.words i.n i.unroll i.start.cells start (no_loop i.words one other));
   loop_by_the_rules = loop_by_the_rules;
@@ -202,22 +236,18 @@ as_document_01_says = record {
 
 -- ---- 3. Every run ends inside
 
-covers : (i : Input) (r : code.Answer) → Analyse i r → r.verdict ≡ Good → Covers i.words i.n i.start.cells i.unroll r.state
-covers i r e g = certain.analysed i.words i.n i.start.cells i.unroll r.state i.sixty_four (answered_good (answers.analysed i.words i.n i.start.cells i.unroll) e g)
+covers : (i : Input) (s : State) → Analyse i (Ok s) → Covers i.words i.n i.start.cells i.unroll s
+covers i s e = certain.analysed i.words i.n i.start.cells i.unroll s i.sixty_four (answered_good (answers.analysed i.words i.n i.start.cells i.unroll) e)
 
 -- the words code one program
-ends_inside : (i : Input) (r : code.Answer) (p : IsProgram i.n i.words) (σ τ : Store) → Analyse i r → r.verdict ≡ Good → page.Begins i σ → Runs p.tree σ τ → Holds i.n r.state τ
-ends_inside i r p σ τ e g h run = let c = covers i r e g in c.covers σ τ h (subst (λ (t : Statements). Runs t σ τ) (code_injective p.tree c.program.tree (sym p.is ∙ c.program.is)) run)
+ends_inside : (i : Input) (s : State) (p : IsProgram i.n i.words) (σ τ : Store) → Analyse i (Ok s) → page.Begins i σ → Runs p.tree σ τ → Holds i.n s τ
+ends_inside i s p σ τ e h run = let c = covers i s e in c.covers σ τ h (subst (λ (t : Statements). Runs t σ τ) (code_injective p.tree c.program.tree (sym p.is ∙ c.program.is)) run)
 
-loop_good : (a : Answer Looped) (r : LoopAnswer) → r ≡ looped a → r.verdict ≡ Good → (l : Looped) × (a ≡ Gives l) × (r ≡ looped (Gives l))
-loop_good (Gives l) r e g = (l, refl, e)
-loop_good (Refuses number place) r e g = absurd (let z : ◌≡◌ {A = ℕ} 0 1 = cc in omega arith)
-
-loop_certain : (i : Input) (r : LoopAnswer) → AnalyseLoop i r → r.verdict ≡ Good → page.LoopCertain i r
-loop_certain i r e g =
-    let x = loop_good (answers.looped i.words i.n i.start.cells i.unroll) r e g in
-    let c = certain.looped i.words i.n i.start.cells i.unroll x.0 i.sixty_four x.1 in
-    subst (page.LoopCertain i) (sym x.2) (record {
+loop_certain : (i : Input) (l : LoopAnswer) → AnalyseLoop i (Ok l) → page.LoopCertain i l
+loop_certain i l e =
+    let a = answers.looped i.words i.n i.start.cells i.unroll in
+    let c = certain.looped i.words i.n i.start.cells i.unroll (a_loop l) i.sixty_four (sym (ap (answer_by a_loop) e ∙ loop_back a)) in
+    record {
       program = c.program;
       unroll = c.unroll;
       event = c.event;
@@ -226,7 +256,7 @@ loop_certain i r e g =
       ends_inside = c.covers;
       settled = c.settled;
       gone_over = omega (arith, c.loop.passes);
-    })
+    }
 
 -- words that are answered fit the marks
 room : (i : Input) {t : State} → answers.analysed i.words i.n i.start.cells i.unroll ≡ Gives t → length i.words ≤ 8192
@@ -243,22 +273,24 @@ gone_over i s p v start visits =
     let A = sure_of (admitted_ok i.words i.n i.unroll i.start.cells i.sixty_four) start in
     visit_most (page.setting i) A.small v (list_visits (page.setting i) A.small p.tree 1 s v (below i.n p.within) A.fit visits)
 
+dead : (i : Input) (m : Marked) (p : IsProgram i.n i.words) (place : ℕ) (σ : Store) → AnalyseMarked i (Ok m) → get_or m.marks place 0 ≡ 0 → page.Begins i σ → ListEnters p.tree 1 σ place → ⊥
+unfolding with_marks
+dead i m p place σ e clear =
+    let analysed = answers.analysed i.words i.n i.start.cells i.unroll in
+    let a = answered_good analysed (ap page.unmarked e ∙ without_marks _ analysed) in
+    certain.marked i.words i.n i.start.cells i.unroll m.state (replicate 8192 0) place i.sixty_four a (rw length-replicate (room i a))
+    (ap (λ (l : List ℕ). get_or l place 0) (sym (marks_of _ analysed m e)) ∙ clear) p σ
+
 every_run_ends_inside : page.EveryRunEndsInside
 every_run_ends_inside = record {
-  program = λ i r e g. (covers i r e g).program;
+  program = λ i s e. (covers i s e).program;
   ends_inside = ends_inside;
-  none_ends = λ i r p σ τ e g empty h run. holds_dead (ap (λ (s : State). s.live) empty) (ends_inside i r p σ τ e g h run);
+  none_ends = λ i p σ τ e h run. holds_dead refl (ends_inside i states.empty p σ τ e h run);
   gone_over = gone_over;
   settled = λ i s p v l start visits q k σ τ after. (certain.each_loop i.words i.n i.start.cells i.unroll p s v l i.sixty_four start visits q).settled k σ τ (omega arith);
   analyse_loop = loop_certain;
   dead = dead;
 }
-  where
-    dead : (i : Input) (r : Marked) (p : IsProgram i.n i.words) (place : ℕ) (σ : Store) → AnalyseMarked i r → r.answer.verdict ≡ Good → get_or r.marks place 0 ≡ 0 → page.Begins i σ → ListEnters p.tree 1 σ place → ⊥
-    dead i r p place σ e g unmarked =
-        let a = answered_good (answers.analysed i.words i.n i.start.cells i.unroll) (ap (λ (m : Marked). m.answer) e) g in
-        certain.marked i.words i.n i.start.cells i.unroll r.answer.state (replicate 8192 0) place i.sixty_four a (rw length-replicate (room i a))
-        (ap (λ (m : List ℕ). get_or m place 0) (sym (ap (λ (m : Marked). m.marks) e)) ∙ unmarked) p σ
 
 -- ---- all three
 

@@ -8,12 +8,12 @@ use native.Mathlib.Omega.{arith}
 use native.Mathlib.Decide.{dec_le}
 use lib.Dec.{ltb}
 use lib.ListN.{length, drop}
+use Rattle.std.specs.Prelude.{Some, None, Ok, Err}
 use borrow.Author.Tests.{ltb-true, ltb-false, lt-ltb, le-ltb}
 use Rattle.ranges.specs.declared.Range.{Range}
 use Rattle.ranges.specs.Ranges as ranges
 use Rattle.states.specs.declared.State.{State}
-use Rattle.states.specs.declared.Answer as code
-use Rattle.states.specs.Answers.{Answer, Gives, Refuses, and_then}
+use Rattle.states.specs.Answers.{Answer, Gives, Refuses, and_then, outcome as result_of, answer_of, refusal}
 use Rattle.states.specs.States as states
 use Rattle.states.specs.Starts as starts
 use Rattle.states.proofs.Fits.{blank_at}
@@ -32,45 +32,42 @@ use Rattle.paper.proofs.Within.{below}
 use Rattle.paper.proofs.Ends.{Ends, gives, refuses, list_ends, analysed_place}
 use Rattle.paper.proofs.Certain.{certain}
 use Rattle.words.specs.Words.{checked}
-use Rattle.analysis.proofs.Entries.{too_wide, let_in, analysed_unadmitted, analysed_bad, analysed_read}
-use Rattle.text.specs.declared.Reading.{Reading}
-use Rattle.text.specs.declared.Reading.TheVariants as reading_is
-use Rattle.text.specs.declared.Printed.{Printed}
-use Rattle.text.specs.declared.Printed.TheVariants as printed_is
+use Rattle.certainties.proofs.Entries.{too_wide, let_in, analysed_unadmitted, analysed_bad, analysed_read}
 use Rattle.text.specs.Answers as outcomes
-use Rattle.text.specs.Answers.{Outcome, leaves, of_reading, of_printed, of_answer}
+use Rattle.text.specs.Answers.{Outcome, leaves, of_printed}
 use Rattle.text.specs.Line as lines
 use Rattle.text.specs.Says.{Says}
 use Rattle.text.specs.Grammar.{Text}
 use Rattle.text.specs.Machine.{Contents, contents, outcome}
-use Rattle.text.specs.declared.Mode.TheVariants.{Start}
+use Rattle.text.specs.declared.reader.Mode.TheVariants.{Start}
 use Rattle.text.proofs.Agree.{text_or_place, says, accepts, refuses as breaks_off}
 use Rattle.text.proofs.Only as only
 use Rattle.text.proofs.Only.{reading_once, printed_once}
 use Rattle.woolquern.specs.Job as job
 use Rattle.woolquern.proofs.Jobs.{ran_bad, ran_sound}
 use Rattle.woolquern.proofs.Only as only_job
+use Rattle.certainties.specs.Certainties as page_of
 use Rattle.certainties.specs.Certainties.{One}
 use Rattle.certainties.specs.Texts as page
-use Rattle.certainties.specs.Texts.{Read, Line, Run, RunMarked, RunLoop, JobAnswer, TextAnswered, JobAnswered, TextCertain}
+use Rattle.certainties.specs.Texts.{Reading, Printed, Read, Line, Run, RunMarked, RunLoop, JobAnswer, TextAnswered, JobAnswered, TextCertain}
 use Rattle.certainties.proofs.Certainties.{is_state, certainties}
 
 read_answered : (text words : List ℕ) (r : Reading) (after : List ℕ) → Read text words r after → page.ReadAnswered text words r after
 read_answered text words r after s = size (dec_le (length text) 65536)
   where
-    of : (q : Reading) (x : List ℕ) → leaves (of_reading r) after ≡ leaves (of_reading q) x → page.ReadAnswered text words q x → page.ReadAnswered text words r after
+    of : (q : Reading) (x : List ℕ) → leaves (answer_of r) after ≡ leaves (answer_of q) x → page.ReadAnswered text words q x → page.ReadAnswered text words r after
     of q x e h = subst (λ (p : Reading). page.ReadAnswered text words p after) (sym (reading_once r q (ap (λ (o : Outcome). o.answer) e))) (subst (page.ReadAnswered text words q) (sym (ap (λ (o : Outcome). o.buffer) e)) h)
 
     fits : length text ≤ 65536 → (vs : List ℕ) → Text text vs → Dec (length vs ≤ 8192) → Dec (length vs ≤ length words) → page.ReadAnswered text words r after
-    fits h vs t (yes a) (yes b) = of (reading_is.Read (length vs)) (vs ++ drop (length vs) words) (s.fits h vs t a b) (page.numbers t)
-    fits h vs t (no a) b = of (reading_is.Refused 2 0) words (s.many h vs t (inl (omega arith))) page.too_much
-    fits h vs t (yes a) (no b) = of (reading_is.Refused 2 0) words (s.many h vs t (inr (omega arith))) page.too_much
+    fits h vs t (yes a) (yes b) = of (Ok (length vs)) (vs ++ drop (length vs) words) (s.fits h vs t a b) (page.numbers t)
+    fits h vs t (no a) b = of (Err (refusal 2 0)) words (s.many h vs t (inl (omega arith))) page.too_much
+    fits h vs t (yes a) (no b) = of (Err (refusal 2 0)) words (s.many h vs t (inr (omega arith))) page.too_much
 
     size : Dec (length text ≤ 65536) → page.ReadAnswered text words r after
-    size (no h) = of (reading_is.Refused 2 0) words (s.long (omega arith)) page.too_much
+    size (no h) = of (Err (refusal 2 0)) words (s.long (omega arith)) page.too_much
     size (yes h) = elim (text_or_place text) [
       | inl t ↦ fits h t.0 t.1 (dec_le (length t.0) 8192) (dec_le (length t.0) (length words))
-      | inr p ↦ of (reading_is.Refused 1 p.0) words (s.broken h p.1 p.0 p.2) (page.no_text p.1 p.2)
+      | inr p ↦ of (Err (refusal 1 p.0)) words (s.broken h p.1 p.0 p.2) (page.no_text p.1 p.2)
     ]
 
 -- what printing a line leaves
@@ -81,27 +78,21 @@ printed_answered line out r after e = go (ltb (length out) (length line)) refl e
     of q x e h = subst (λ (p : Printed). page.LineAnswered line out p after) (sym (printed_once r q (ap (λ (o : Outcome). o.answer) e))) (subst (page.LineAnswered line out q) (sym (ap (λ (o : Outcome). o.buffer) e)) h)
 
     go : (b : Bool) → ltb (length out) (length line) ≡ b → leaves (of_printed r) after ≡ cond b (outcomes.refused 2 0 out) (outcomes.done line out) → page.LineAnswered line out r after
-    go true q e = of printed_is.Short out e (page.short (ltb-true (length out) (length line) q))
-    go false q e = of (printed_is.Wrote (length line)) (line ++ drop (length line) out) e (page.written (ltb-false (length out) (length line) q))
+    go true q e = of None out e (page.short (ltb-true (length out) (length line) q))
+    go false q e = of (Some (length line)) (line ++ drop (length line) out) e (page.written (ltb-false (length out) (length line) q))
 
--- the reader's answer as the code has it
-as_reading : Answer ℕ → Reading
-as_reading (Gives count) = reading_is.Read count
-as_reading (Refuses number place) = reading_is.Refused number place
-
-read_back : (a : Answer ℕ) → of_reading (as_reading a) ≡ a
-unfolding as_reading
+read_back : (a : Answer ℕ) → answer_of (result_of a) ≡ a
 read_back (Gives count) = refl
 read_back (Refuses number place) = refl
 
 read_one : (text words : List ℕ) → One (λ (x : Reading × List ℕ). Read text words x.0 x.1)
 read_one text words =
     let o = outcome text words in
-    let s : Read text words (as_reading o.answer) o.buffer = subst (λ (a : Answer ℕ). Says text words (leaves a o.buffer)) (sym (read_back o.answer)) (says text words) in
+    let s : Read text words (result_of o.answer) o.buffer = subst (λ (a : Answer ℕ). Says text words (leaves a o.buffer)) (sym (read_back o.answer)) (says text words) in
     record {
-      answer = (as_reading o.answer, o.buffer);
+      answer = (result_of o.answer, o.buffer);
       is = s;
-      only = λ x t. let e = only.read text words x.0 (as_reading o.answer) x.1 o.buffer t s in λ i. (e.0 i, e.1 i);
+      only = λ x t. let e = only.read text words x.0 (result_of o.answer) x.1 o.buffer t s in λ i. (e.0 i, e.1 i);
     }
 
 -- a printing's answer as the code has it: it refuses by 2 at 0 alone
@@ -109,12 +100,12 @@ made : (line out : List ℕ) → (x : Printed × List ℕ) × (leaves (of_printe
 made line out = go (ltb (length out) (length line))
   where
     go : (b : Bool) → (x : Printed × List ℕ) × (leaves (of_printed x.0) x.1 ≡ cond b (outcomes.refused 2 0 out) (outcomes.done line out))
-    go true = ((printed_is.Short, out), refl)
-    go false = ((printed_is.Wrote (length line), (outcomes.done line out).buffer), refl)
+    go true = ((None, out), refl)
+    go false = ((Some (length line), (outcomes.done line out).buffer), refl)
 
-line_one : (answer : code.Answer) (n : ℕ) (out : List ℕ) → One (λ (x : Printed × List ℕ). Line answer n out x.0 x.1)
+line_one : (answer : page_of.Answer) (n : ℕ) (out : List ℕ) → One (λ (x : Printed × List ℕ). Line answer n out x.0 x.1)
 line_one answer n out =
-    let s = made (lines.line n (of_answer answer)) out in
+    let s = made (lines.line n (answer_of answer)) out in
     record {
       answer = s.0;
       is = s.1;
@@ -234,7 +225,7 @@ text_certain text o = go (Gives o) refl
           holds = t;
           program = c.program;
           ends_inside = λ σ τ zero run. c.covers σ τ (zeros_hold o.n σ zero) run;
-          none_ends = λ empty σ τ zero run. c.none_ends (ap (λ (s : State). s.live) empty) σ τ (zeros_hold o.n σ zero) run;
+          none_ends = λ empty σ τ zero run. c.none_ends (ap states.is_live empty) σ τ (zeros_hold o.n σ zero) run;
         }
 
 -- ---- the line
@@ -285,7 +276,7 @@ run_loop_one text unroll counts settled out =
 pub of_texts : page.OfTexts
 of_texts = record {
   read = read_answered;
-  line = λ answer n out. printed_answered (lines.line n (of_answer answer)) out;
+  line = λ answer n out. printed_answered (lines.line n (answer_of answer)) out;
   answer = λ text. record { answer = job.answer text; is = text_answered text; only = text_is text };
   answered = job_answered;
   run = λ text out r after a e t. printed_answered (job.line_of a) out r after (e ∙ ap (λ (a : JobAnswer). lines.printed (job.line_of a) out) (sym (text_is text a t)));

@@ -1,30 +1,33 @@
 -- The certainties of texts: reading one into words, printing an answer as a line, and the whole job, from a text to its line. `of_texts` of proofs/Texts.antt proves them.
 -- Each function is lent a buffer or more: what it holds before, and after.
-use Rattle.std.specs.Prelude.{◌≡◌, List, ◌++◌, ℕ, ◌≤◌, ◌<◌, length, drop}
-use Rattle.states.specs.declared.Answer.{Answer}
-use Rattle.states.specs.Answers.{Answer as AnswerOf, Gives, Refuses}
+use Rattle.std.specs.Prelude.{◌≡◌, List, ◌++◌, ℕ, ◌≤◌, ◌<◌, Option, Some, None, Result, Ok, Err, length, drop}
+use Rattle.states.specs.declared.Refusal.{Refusal}
+use Rattle.states.specs.Answers.{Answer as AnswerOf, Gives, Refuses, answer_of, refusal as refusal_at}
 use Rattle.states.specs.States as states
 use Rattle.paper.specs.Limits.{IsProgram}
 use Rattle.paper.specs.Runs.{Store, Runs, Holds}
 use Rattle.paper.specs.Answers as answers
 use Rattle.paper.specs.Places.{Placed}
-use Rattle.text.specs.declared.Reading.{Reading}
-use Rattle.text.specs.declared.Reading.TheVariants as reading_is
-use Rattle.text.specs.declared.Printed.{Printed}
-use Rattle.text.specs.declared.Printed.TheVariants as printed_is
 use Rattle.text.specs.Grammar.{Text, Longest}
 use Rattle.text.specs.Says.{Says}
-use Rattle.text.specs.Answers.{leaves, of_reading, of_printed, of_answer}
+use Rattle.text.specs.Answers.{leaves, of_printed}
 use Rattle.text.specs.Line as lines
 use Rattle.woolquern.specs.Job as job
-use Rattle.certainties.specs.Certainties.{IsState, One}
+use Rattle.certainties.specs.Certainties.{Answer, IsState, One}
+
+-- how many words were read, or a refusal by number and place; how many bytes were printed, or none where the buffer is shorter than the line
+abbrev pub Reading : Type 0
+Reading = Result ℕ Refusal
+
+abbrev pub Printed : Type 0
+Printed = Option ℕ
 
 -- r is the answer: what the contracts prove
 abbrev pub Read : (text words : List ℕ) → Reading → (after : List ℕ) → Type 0
-Read text words r after = Says text words (leaves (of_reading r) after)
+Read text words r after = Says text words (leaves (answer_of r) after)
 
 abbrev pub Line : Answer → ℕ → (out : List ℕ) → Printed → (after : List ℕ) → Type 0
-Line answer n out r after = leaves (of_printed r) after ≡ lines.printed (lines.line n (of_answer answer)) out
+Line answer n out r after = leaves (of_printed r) after ≡ lines.printed (lines.line n (answer_of answer)) out
 
 abbrev pub Run : (text out : List ℕ) → Printed → (after : List ℕ) → Type 0
 Run text out r after = leaves (of_printed r) after ≡ job.run text out
@@ -39,14 +42,14 @@ RunLoop text unroll counts settled out r counted rested after = job.all_left (of
 
 -- "Every program text": its numbers stand in front of the lent buffer, or it is refused by 1 or 2; "A refusal .. writes into no lent buffer."
 pub data ReadAnswered (text words : List ℕ) : Reading → (after : List ℕ) → Type 0 where
-  numbers : {vs : List ℕ} → Text text vs → ReadAnswered text words (reading_is.Read (length vs)) (vs ++ drop (length vs) words)
-  no_text : {place : ℕ} → ((vs : List ℕ) → Text text vs → ⊥) → Longest text place → ReadAnswered text words (reading_is.Refused 1 place) words
-  too_much : ReadAnswered text words (reading_is.Refused 2 0) words
+  numbers : {vs : List ℕ} → Text text vs → ReadAnswered text words (Ok (length vs)) (vs ++ drop (length vs) words)
+  no_text : {place : ℕ} → ((vs : List ℕ) → Text text vs → ⊥) → Longest text place → ReadAnswered text words (Err (refusal_at 1 place)) words
+  too_much : ReadAnswered text words (Err (refusal_at 2 0)) words
 
 -- the line stands in front of the lent buffer, or the buffer is shorter, which is 2 at 0, and stays as it was
 pub data LineAnswered (line out : List ℕ) : Printed → (after : List ℕ) → Type 0 where
-  written : length line ≤ length out → LineAnswered line out (printed_is.Wrote (length line)) (line ++ drop (length line) out)
-  short : length out < length line → LineAnswered line out printed_is.Short out
+  written : length line ≤ length out → LineAnswered line out (Some (length line)) (line ++ drop (length line) out)
+  short : length out < length line → LineAnswered line out None out
 
 -- ---- the whole job
 
@@ -87,7 +90,7 @@ pub record TextCertain (text : List ℕ) (o : answers.Outcome) : Type 0 where
 
 pub record OfTexts : Type 0 where
   pub read : (text words : List ℕ) (r : Reading) (after : List ℕ) → Read text words r after → ReadAnswered text words r after
-  pub line : (answer : Answer) (n : ℕ) (out : List ℕ) (r : Printed) (after : List ℕ) → Line answer n out r after → LineAnswered (lines.line n (of_answer answer)) out r after
+  pub line : (answer : Answer) (n : ℕ) (out : List ℕ) (r : Printed) (after : List ℕ) → Line answer n out r after → LineAnswered (lines.line n (answer_of answer)) out r after
   -- every text has an answer, one only, and it is what certainty 1 says; the line is that of the answer
   pub answer : (text : List ℕ) → One (TextAnswered text)
   pub answered : (text : List ℕ) (a : JobAnswer) → TextAnswered text a → JobAnswered text a

@@ -7,29 +7,32 @@ ghost use Rattle.certainties.specs.Certainties.{Analyse, AnalyseMarked, AnalyseL
 ghost use Rattle.certainties.specs.Texts.{Read, Line, Run, RunMarked, RunLoop};
 
 use analysis::{LoopAnswer, Marked};
-use states::{Answer, Start};
-use text::{Printed, Reading};
-use words::Checked;
+use states::{Refusal, Start, State};
 
-fn analyse(words: &[u64], n: usize, start: Start, unroll: usize) -> Answer
-    ensures { (long : length start.cells ≡ 64) → Analyse (record { words = words.now; n = n; start = start; unroll = unroll; sixty_four = long }) result }
+fn analyse(words: &[u64], n: usize, start: &Start, unroll: usize) -> Result<State, Refusal>
+    ensures { (long : length start.now.cells ≡ 64) → Analyse (record { words = words.now; n = n; start = start.now; unroll = unroll; sixty_four = long }) result }
 {
     analysis::analyse(words, n, start, unroll)
 }
 
-fn analyse_marked(words: &[u64], n: usize, start: Start, unroll: usize) -> Marked
-    ensures { (long : length start.cells ≡ 64) → AnalyseMarked (record { words = words.now; n = n; start = start; unroll = unroll; sixty_four = long }) result }
+fn analyse_marked(words: &[u64], n: usize, start: &Start, unroll: usize) -> Result<Marked, Refusal>
+    ensures { (long : length start.now.cells ≡ 64) → AnalyseMarked (record { words = words.now; n = n; start = start.now; unroll = unroll; sixty_four = long }) result }
 {
     analysis::analyse_marked(words, n, start, unroll)
 }
 
-fn analyse_loop(words: &[u64], n: usize, start: Start, unroll: usize) -> LoopAnswer
-    ensures { (long : length start.cells ≡ 64) → AnalyseLoop (record { words = words.now; n = n; start = start; unroll = unroll; sixty_four = long }) result }
+fn analyse_loop(
+    words: &[u64],
+    n: usize,
+    start: &Start,
+    unroll: usize,
+) -> Result<LoopAnswer, Refusal>
+    ensures { (long : length start.now.cells ≡ 64) → AnalyseLoop (record { words = words.now; n = n; start = start.now; unroll = unroll; sixty_four = long }) result }
 {
     analysis::analyse_loop(words, n, start, unroll)
 }
 
-fn check(words: &[u64], n: usize) -> Checked
+fn check(words: &[u64], n: usize) -> Result<usize, Refusal>
     ensures { Check words.now n result }
 {
     words::check(words, n)
@@ -41,25 +44,25 @@ fn used(words: &[u64]) -> usize
     words::used(words)
 }
 
-fn read(text: &[u8], words: &mut [u64]) -> Reading
+fn read(text: &[u8], words: &mut [u64]) -> Result<usize, Refusal>
     ensures { Read text.now words.old result words.new }
 {
     text::read(text, words)
 }
 
-fn line(answer: Answer, n: usize, out: &mut [u8]) -> Printed
-    ensures { Line answer n out.old result out.new }
+fn line(answer: &Result<State, Refusal>, n: usize, out: &mut [u8]) -> Option<usize>
+    ensures { Line answer.now n out.old result out.new }
 {
     text::line(answer, n, out)
 }
 
-fn run(text: &[u8], out: &mut [u8]) -> Printed
+fn run(text: &[u8], out: &mut [u8]) -> Option<usize>
     ensures { Run text.now out.old result out.new }
 {
     woolquern::run(text, out)
 }
 
-fn run_marked(text: &[u8], marks: &mut [u8], out: &mut [u8]) -> Printed
+fn run_marked(text: &[u8], marks: &mut [u8], out: &mut [u8]) -> Option<usize>
     ensures { RunMarked text.now marks.old out.old result marks.new out.new }
 {
     woolquern::run_marked(text, marks, out)
@@ -71,7 +74,7 @@ fn run_loop(
     counts: &mut [u64],
     settled: &mut [u8],
     out: &mut [u8],
-) -> Printed
+) -> Option<usize>
     ensures { RunLoop text.now unroll counts.old settled.old out.old result counts.new settled.new out.new }
 {
     woolquern::run_loop(text, unroll, counts, settled, out)
