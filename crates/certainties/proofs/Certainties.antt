@@ -49,15 +49,16 @@ use Rattle.words.proofs.Exact.{sound_is_program, program_is_sound}
 use Rattle.analysis.specs.declared.Marked.{Marked}
 use Rattle.analysis.specs.declared.LoopAnswer.{LoopAnswer}
 use Rattle.analysis.specs.Outcomes.{answer_by, a_loop, looped}
-use Rattle.certainties.proofs.Entries.{too_long, too_wide, too_deep, let_in, analysed_unadmitted, analysed_bad, analysed_read}
-use Rattle.certainties.proofs.Entries.{begins_none, begins_other, begins_short, begins_unlike, begins_loop, looped_unbegun, looped_read}
+use Rattle.analysis.proofs.Entries.{too_long, too_wide, too_deep, let_in, analysed_unadmitted, analysed_bad, analysed_read}
+use Rattle.analysis.proofs.Entries.{begins_none, begins_other, begins_short, begins_unlike, begins_loop, looped_unbegun, looped_read}
 use Rattle.certainties.proofs.Numbers.{every_number}
 use Rattle.certainties.specs.Certainties as page
 use Rattle.certainties.specs.Certainties.{Input, Analyse, AnalyseMarked, AnalyseLoop, One, Certainties}
 
 -- ---- results and answers
 
-back : {A : Type 0} (a : Answer A) → answer_of (outcome a) ≡ a
+-- what an answer is as a result is that answer
+pub back : {A : Type 0} (a : Answer A) → answer_of (outcome a) ≡ a
 back (Gives x) = refl
 back (Refuses number place) = refl
 
@@ -193,16 +194,16 @@ is_read : {n : ℕ} {ws : List ℕ} (p : IsProgram n ws) → reader.program ws n
 is_read {n} {ws} p = ap (λ (l : List ℕ). reader.program l n) p.is ∙ code_is_read n p.tree p.within
 
 -- how a loop's own entry begins
-not_one : (ws : List ℕ) → (get_or ws 0 0 ≡ 1 → ⊥) → answers.begins ws ≡ Refuses 3 0
+not_one : (ws : List ℕ) → (get_or ws 0 0 ≡ 1 → ⊥) → Refuses 3 0 ≡ answers.begins ws
 not_one [] h = begins_none [] refl
 not_one (x ∷ ws) h = begins_other (x ∷ ws) (omega arith) h
 
-no_loop : (ws : List ℕ) → get_or ws 0 0 ≡ 1 → (get_or ws 1 0 ≡ 5 → ⊥) → answers.begins ws ≡ Refuses 3 1
+no_loop : (ws : List ℕ) → get_or ws 0 0 ≡ 1 → (get_or ws 1 0 ≡ 5 → ⊥) → Refuses 3 1 ≡ answers.begins ws
 no_loop [] one h = absurd (omega arith)
 no_loop (x ∷ []) one h = begins_short (x ∷ []) one refl
 no_loop (x ∷ y ∷ ws) one h = begins_unlike (x ∷ y ∷ ws) one (omega arith) h
 
-loop_begins : (ws : List ℕ) (u : Unroll) (e : Event) (b : Statements) → ws ≡ code_of.program (While u e b then done) → answers.begins ws ≡ Gives tt
+loop_begins : (ws : List ℕ) (u : Unroll) (e : Event) (b : Statements) → ws ≡ code_of.program (While u e b then done) → Gives tt ≡ answers.begins ws
 unfolding code_of.count code_of.list code_of.statement
 loop_begins ws u e b is =
     begins_loop ws (ap (λ (l : List ℕ). get_or l 0 0) is) (omega (arith, ap length is)) (ap (λ (l : List ℕ). get_or l 1 0) is)

@@ -1,4 +1,3 @@
-pub mod Entries
 pub mod Numbers
 pub mod Certainties
 pub mod Texts

@@ -32,7 +32,7 @@ use Rattle.paper.proofs.Within.{below}
 use Rattle.paper.proofs.Ends.{Ends, gives, refuses, list_ends, analysed_place}
 use Rattle.paper.proofs.Certain.{certain}
 use Rattle.words.specs.Words.{checked}
-use Rattle.certainties.proofs.Entries.{too_wide, let_in, analysed_unadmitted, analysed_bad, analysed_read}
+use Rattle.analysis.proofs.Entries.{too_wide, let_in, analysed_unadmitted, analysed_bad, analysed_read}
 use Rattle.text.specs.Answers as outcomes
 use Rattle.text.specs.Answers.{Outcome, leaves, of_printed}
 use Rattle.text.specs.Line as lines
@@ -50,7 +50,7 @@ use Rattle.certainties.specs.Certainties as page_of
 use Rattle.certainties.specs.Certainties.{One}
 use Rattle.certainties.specs.Texts as page
 use Rattle.certainties.specs.Texts.{Reading, Printed, Read, Line, Run, RunMarked, RunLoop, JobAnswer, TextAnswered, JobAnswered, TextCertain}
-use Rattle.certainties.proofs.Certainties.{is_state, certainties}
+use Rattle.certainties.proofs.Certainties.{back, is_state, certainties}
 
 read_answered : (text words : List ℕ) (r : Reading) (after : List ℕ) → Read text words r after → page.ReadAnswered text words r after
 read_answered text words r after s = size (dec_le (length text) 65536)
@@ -81,14 +81,10 @@ printed_answered line out r after e = go (ltb (length out) (length line)) refl e
     go true q e = of None out e (page.short (ltb-true (length out) (length line) q))
     go false q e = of (Some (length line)) (line ++ drop (length line) out) e (page.written (ltb-false (length out) (length line) q))
 
-read_back : (a : Answer ℕ) → answer_of (result_of a) ≡ a
-read_back (Gives count) = refl
-read_back (Refuses number place) = refl
-
 read_one : (text words : List ℕ) → One (λ (x : Reading × List ℕ). Read text words x.0 x.1)
 read_one text words =
     let o = outcome text words in
-    let s : Read text words (result_of o.answer) o.buffer = subst (λ (a : Answer ℕ). Says text words (leaves a o.buffer)) (sym (read_back o.answer)) (says text words) in
+    let s : Read text words (result_of o.answer) o.buffer = subst (λ (a : Answer ℕ). Says text words (leaves a o.buffer)) (sym (back o.answer)) (says text words) in
     record {
       answer = (result_of o.answer, o.buffer);
       is = s;
