@@ -82,6 +82,14 @@ filled_front set low high h more x l u = go (eqb x low) refl
     go true q = rw (eqb-true x low q) h
     go false q = let d = eqb-false x low q in more x (omega arith) u
 
+-- a stretch and the one that follows it
+pub filled_join : (set : List ℕ) (low middle high : ℕ) → Filled set low middle → Filled set middle high → Filled set low high
+filled_join set low middle high h k x l u = go (ltb x middle) refl
+  where
+    go : (b : Bool) → ltb x middle ≡ b → ranges.has set x ≡ true
+    go true q = h x l (ltb-true x middle q)
+    go false q = k x (ltb-false x middle q) u
+
 least_here : (set : List ℕ) (start : ℕ) → ranges.has set start ≡ false → Least set start start
 least_here set start h = record { above = omega arith; out = h; passed = λ x l u. absurd (omega arith) }
 
@@ -120,6 +128,19 @@ least_le set start first x p l h = go (leb first x) refl
     go : (b : Bool) → leb first x ≡ b → first ≤ x
     go true q = leb-true first x q
     go false q = absurd (clash set x (p.passed x l (leb-false first x q)) h)
+
+-- what the set fills from the start on ends at the least that is not in it, or before
+filled_le : (set : List ℕ) (start first high : ℕ) → Least set start first → Filled set start high → high ≤ first
+filled_le set start first high p h = go (leb high first) refl
+  where
+    go : (b : Bool) → leb high first ≡ b → high ≤ first
+    go true q = leb-true high first q
+    go false q = absurd (clash set first (h first p.above (leb-false high first q)) p.out)
+
+-- so it is no longer than the set has values
+pub filled_near : (set : List ℕ) (start high : ℕ) → Filled set start high → high ≤ start + length set
+filled_near set start high h =
+    omega (arith, filled_le set start (ranges.first_out (length set) set start) high (first_out_is set start) h, first_out_near (length set) set start)
 
 -- there is one least number only
 pub least_only : (set : List ℕ) (start m n : ℕ) → Least set start m → Least set start n → m ≡ n

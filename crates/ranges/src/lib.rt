@@ -14,6 +14,9 @@ pub enum Range {
     Span(u32, Option<u32>),
 }
 
+// The largest number that a range's start and end can be.
+pub const TOP: u64 = 4294967295;
+
 // The higher end.
 fn join_ends(a: Option<u32>, b: Option<u32>) -> Option<u32>
     ensures { result ≡ join_ends a b }

@@ -3,7 +3,7 @@ ghost use Rattle.std.specs.Prelude.{◌≡◌, ◌+◌, ◌<◌, ◌^◌, length
 ghost use Rattle.ranges.specs.Ranges.{holds, around, retain, first_out, cut_end, remove_end, remove};
 ghost use Rattle.ranges.specs.Walks.{raised, lowered};
 
-use crate::Range;
+use crate::{Range, TOP};
 
 // The smallest range that has x.
 fn around(x: u64) -> Range
@@ -11,7 +11,7 @@ fn around(x: u64) -> Range
 {
     match u32::try_from(x) {
         Ok(x) => Range::point(x),
-        Err(_) => Range::Span(u32::MAX, None),
+        Err(_) => Range::Span(TOP as u32, None),
     }
 }
 

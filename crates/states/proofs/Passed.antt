@@ -1,16 +1,23 @@
--- What the proofs of functions share: a start that a function is passed has 64 cells, and join's ways past an empty state.
+-- What the proofs of functions share: a state or a start that a function is passed has 64 cells, and join's ways past an empty state.
 use mathlib.Core.Path.{◌≡◌, refl, sym}
 use mathlib.Core.Bool.{true, false, false≢true}
 use Prim.Native.Nat.{ℕ}
 use lib.ListN.{length}
 use denote.Laws.{Is}
+use denote.Enum.Laws.{vals as state_vals, owed}
 use denote.Struct.Laws.{vals}
 use Rattle.states.specs.declared.State.{State}
 use Rattle.states.specs.declared.Start.{Start}
+use Rattle.states.specs.contracts.State as state_type
+use Rattle.states.proofs.State.TheLaws as state_laws
 use Rattle.states.specs.contracts.Start as start
 use Rattle.states.proofs.Start.TheLaws as start_laws
 use Rattle.states.specs.declared.State.TheVariants as state
 use Rattle.states.specs.States as states
+
+pub state_long : (s : State) → Is state_type.the_row s (state_vals state_type.the_type state_laws.the_laws s) → length (states.cells s) ≡ 64
+state_long state.Empty told = refl
+state_long (state.Live cs) told = (owed state_type.the_type state_laws.the_laws (state.Live cs) _ told).0.1.0.1
 
 pub start_long : (s : Start) → Is start.the_row s (vals start.the_type start_laws.the_laws s) → length s.cells ≡ 64
 start_long s told = told.1.1.0.1.0.1

@@ -7,11 +7,15 @@ use native.Mathlib.Omega.{arith}
 use lib.ListN.{length, get_or}
 use Rattle.paper.specs.Limits as limits
 use Rattle.paper.specs.Code as code
-use Rattle.paper.specs.Tree.{Draw, Event, InSet, Complement, Intersection, Events, ◌also◌}
+use Rattle.paper.specs.Tree.{Draw, Event, InSet, VarComparison, DataFromDist, Complement, Intersection, Events, ◌also◌}
 use Rattle.paper.specs.Tree.{Addend, Unroll, Statement, Sample, Assign, Decrement, IfThenElse, While, Normalize, Statements, ◌then◌}
 use Rattle.paper.specs.Limits.{Small, Each, DrawIn, AddendIn, UnrollIn, EventIn, EventsIn, StatementIn, StatementsIn, IsProgram}
-use Rattle.words.specs.Parts.{Begins, EventWithin, EventsWithin, StatementWithin, ListWithin}
+use Rattle.words.specs.Parts.{Begins, EventWithin, EventsWithin, StatementWithin, ListWithin, ListIs}
 use Rattle.words.proofs.Nodes.{draw_of, draw_is}
+
+-- a program is a list
+pub program_list : {n : ℕ} {ws : List ℕ} → IsProgram n ws → ListIs n ws
+program_list p = record { tree = p.tree; is = p.is; within = record { deep = 16; loops = 3; holds = p.within } }
 
 -- what holds of each holds at an index
 pub each_at : (P : ℕ → Type 0) (xs : List ℕ) (i : ℕ) → Each P xs → i < length xs → P (get_or xs i 0)
@@ -38,6 +42,18 @@ set_bounds {n} {v} {e} {xs} s w = go (rw s at w.holds)
   where
     go : {deep : ℕ} → EventIn n deep (InSet v xs) → SetBounds n v xs
     go (limits.set a b c) = record { var = a; few = b; small = c }
+
+pub comparison_bounds : {n v w : ℕ} {e : Event} → e ≡ VarComparison v w → EventWithin n e → (v < n) × (w < n)
+comparison_bounds {n} {v} {w} s h = go (rw s at h.holds)
+  where
+    go : {deep : ℕ} → EventIn n deep (VarComparison v w) → (v < n) × (w < n)
+    go (limits.comparison a b) = (a, b)
+
+pub datum_bounds : {n x : ℕ} {e : Event} {d : Draw} → e ≡ DataFromDist x d → EventWithin n e → Small x × DrawIn n d
+datum_bounds {n} {x} {e} {d} s w = go (rw s at w.holds)
+  where
+    go : {deep : ℕ} → EventIn n deep (DataFromDist x d) → Small x × DrawIn n d
+    go (limits.datum a b) = (a, b)
 
 pub complement_bounds : {n : ℕ} {e x : Event} → e ≡ Complement x → EventWithin n e → EventWithin n x
 complement_bounds {n} {e} {x} s w = go (rw s at w.holds)
