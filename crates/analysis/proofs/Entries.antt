@@ -6,7 +6,7 @@ use Prim.Native.Nat.{ℕ, ◌+◌, ◌<◌, ◌≤◌}
 use native.Mathlib.Omega.{arith}
 use lib.Dec.{ltb, eqb}
 use lib.ListN.{length, get_or, drop}
-use borrow.Author.Tests.{ltb-true, eqb-true, lt-ltb, le-ltb, eq-eqb, ne_eqb}
+use borrow.Author.Tests.{ltb-false, ltb-true, eqb-true, lt-ltb, le-ltb, eq-eqb, ne_eqb}
 use Rattle.std.specs.Prelude.{Result, Ok, Err, IsErrAnd}
 use Rattle.states.specs.declared.Cell.{Cell}
 use Rattle.states.specs.declared.Refusal.{Refusal}
@@ -59,6 +59,16 @@ module _ (ws : List ℕ) (n u : ℕ) (cs : List Cell) where
 
   pub let_in : length ws ≤ 8192 → n ≤ 64 → u ≤ 10000 → starts.started n cs ≡ answers.admitted ws n u cs
   let_in a b h = sym (tests false false false (le-ltb 8192 (length ws) a) (le-ltb 64 n b) (le-ltb 10000 u h))
+
+  -- what is admitted lies within the limits
+  pub admitted_small : {s : State} → answers.admitted ws n u cs ≡ Gives s → (length ws ≤ 8192) × (n ≤ 64) × (u ≤ 10000)
+  admitted_small {s} e = go (ltb 8192 (length ws)) (ltb 64 n) (ltb 10000 u) refl refl refl e
+    where
+      go : (a b c : Bool) → ltb 8192 (length ws) ≡ a → ltb 64 n ≡ b → ltb 10000 u ≡ c → by_tests a b c (starts.started n cs) ≡ Gives s → (length ws ≤ 8192) × (n ≤ 64) × (u ≤ 10000)
+      go true b c p q r e = absurd (let z : ◌≡◌ {A = ℕ} 0 1 = cc in omega arith)
+      go false true c p q r e = absurd (let z : ◌≡◌ {A = ℕ} 0 1 = cc in omega arith)
+      go false false true p q r e = absurd (let z : ◌≡◌ {A = ℕ} 0 1 = cc in omega arith)
+      go false false false p q r e = (ltb-false 8192 (length ws) p, ltb-false 64 n q, ltb-false 10000 u r)
 
   -- ---- the check, and the walk
 

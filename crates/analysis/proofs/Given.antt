@@ -74,9 +74,9 @@ module _ (g : Setting) (at body_at : ℕ) (b : Statements) (s : State) where
         go true = refl
         go false = ap many (let e : end - start + 1 ≡ max end start + 1 - start = omega arith in e)
 
-    first_given : noted.normalized g at (v ∷ vs) body_at b s ≡ by_values (loops.values at (states.is_live s) (states.get s v))
+    by_first : noted.normalized g at (v ∷ vs) body_at b s ≡ by_values (loops.values at (states.is_live s) (states.get s v))
     unfolding rules.normalized trace.normalized
-    first_given = first_is (states.is_live s) (states.get s v)
+    by_first = first_is (states.is_live s) (states.get s v)
 
   -- one value further: x of those up to the last
   module _ (v : ℕ) (vs : List ℕ) (x last : ℕ) where
@@ -121,9 +121,14 @@ nothing_given g place base b s [] e h = h
 nothing_given g place base b s (v ∷ vs) e h = absurd (omega arith)
 
 -- the first of some given variables, and the rest
-first_and_rest : (l : List ℕ) → 0 < length l → (get_or l 0 0 ∷ drop 1 l) ≡ l
+pub first_and_rest : (l : List ℕ) → 0 < length l → (get_or l 0 0 ∷ drop 1 l) ≡ l
 first_and_rest [] h = absurd (omega arith)
 first_and_rest (v ∷ vs) h = refl
+
+pub first_given : {n : ℕ} (l : List ℕ) → GivenAre n l → 0 < length l → get_or l 0 0 < n
+unfolding Each
+first_given [] h k = absurd (omega arith)
+first_given (v ∷ vs) h k = h.each.0
 
 pub rest_given : {n : ℕ} (l : List ℕ) → GivenAre n l → 0 < length l → GivenAre n (drop 1 l)
 unfolding Each
@@ -137,7 +142,7 @@ module _ (g : Setting) (at body_at : ℕ) (b : Statements) (s : State) (l : List
 
   one_given : {m : List ℕ} → Leads (noted.normalized g at l body_at b s) m (by_values g at body_at b s (get_or l 0 0) (drop 1 l) given_values) m
   one_given {m} = subst (λ (k : List ℕ). Leads (noted.normalized g at k body_at b s) m (by_values g at body_at b s (get_or l 0 0) (drop 1 l) given_values) m) (first_and_rest l some)
-      (leads_by (first_given g at body_at b s (get_or l 0 0) (drop 1 l)))
+      (leads_by (by_first g at body_at b s (get_or l 0 0) (drop 1 l)))
 
   pub given_refused : {d : Refusal} {m : List ℕ} → Err d ≡ given_values → Says (noted.normalized g at l body_at b s) (Refuses d.number d.place) m m
   unfolding by_values

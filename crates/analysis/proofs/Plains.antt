@@ -1,11 +1,11 @@
 -- What the rules make of a plain statement, by its words.
-use mathlib.Core.Path.{◌≡◌, refl, sym, ap, ◌∙◌}
+use mathlib.Core.Path.{◌≡◌, refl, sym, ap, ◌∙◌, subst}
 use mathlib.Core.Bool.{true, false, false≢true, cond}
-use mathlib.Core.List.{List}
-use Prim.Native.Nat.{ℕ, ◌<◌, ◌≤◌}
+use mathlib.Core.List.{List, ◌∷◌}
+use Prim.Native.Nat.{ℕ, ◌+◌, ◌<◌, ◌≤◌}
 use native.Mathlib.Omega.{arith}
 use lib.Dec.{eqb}
-use lib.ListN.{get_or, drop}
+use lib.ListN.{length, get_or, drop}
 use Rattle.std.specs.Prelude.{Option, Some, None}
 use Rattle.ranges.specs.declared.Range.{Range}
 use Rattle.ranges.specs.Ranges as ranges
@@ -18,12 +18,56 @@ use Rattle.paper.specs.Code as code
 use Rattle.paper.specs.Rules as rules
 use Rattle.paper.specs.Rules.{Setting}
 use Rattle.paper.specs.Limits.{DrawIn, AddendIn}
-use Rattle.words.specs.Parts.{StatementIs, StatementWithin, DrawIs}
-use Rattle.words.proofs.Bounds.{sample_bounds, assign_bounds}
+use Rattle.words.specs.Parts.{Begins, StatementIs, StatementWithin, DrawIs}
+use Rattle.words.proofs.Nodes.{begins_second, assign_here, decrement_here}
+use Rattle.words.proofs.Parts.{begins_whole, begins_head}
+use Rattle.words.proofs.Bounds.{sample_bounds, assign_bounds, decrement_bounds}
 
 -- the word of a statement at an index
 abbrev pub word : Statement → ℕ → ℕ
 word c i = get_or (code.statement c) i 0
+
+-- it begins with its kind word
+kind_first : (c : Statement) → code.statement c ≡ (word c 0 ∷ drop 1 (code.statement c))
+unfolding code.statement
+kind_first (Sample v add d) = refl
+kind_first (Assign v add Nought k) = refl
+kind_first (Assign v add (Times f w) k) = refl
+kind_first (Decrement v k) = refl
+kind_first (IfThenElse e t f) = refl
+kind_first (While u e b) = refl
+kind_first Fail = refl
+kind_first (Normalize vs b) = refl
+
+pub begins_kind : {ws : List ℕ} {at : ℕ} (c : Statement) → Begins ws at (code.statement c) → get_or ws at 0 ≡ word c 0
+begins_kind {ws} {at} c h = begins_head (subst (λ (l : List ℕ). Begins ws at l) (kind_first c) h)
+
+-- and a plain one's second word is the variable that it changes
+pub begins_target : {ws : List ℕ} {at : ℕ} (c : Statement) → Begins ws at (code.statement c) → word c 0 < 4 → get_or ws (at + 1) 0 ≡ word c 1
+unfolding code.statement
+begins_target (Sample v add d) h k = begins_second h
+begins_target (Assign v add Nought offset) h k = begins_second h
+begins_target (Assign v add (Times factor w) offset) h k = begins_second h
+begins_target (Decrement v offset) h k = begins_second h
+begins_target (IfThenElse e t f) h k = absurd (omega arith)
+begins_target (While u e b) h k = absurd (omega arith)
+begins_target Fail h k = absurd (omega arith)
+begins_target (Normalize vs b) h k = absurd (omega arith)
+
+-- a plain one has three words at least
+plain_size : (c : Statement) → word c 0 < 4 → 3 ≤ length (code.statement c)
+unfolding code.statement
+plain_size (Sample v add d) k = omega arith
+plain_size (Assign v add Nought offset) k = omega arith
+plain_size (Assign v add (Times factor w) offset) k = omega arith
+plain_size (Decrement v offset) k = omega arith
+plain_size (IfThenElse e t f) k = absurd (omega arith)
+plain_size (While u e b) k = absurd (omega arith)
+plain_size Fail k = absurd (omega arith)
+plain_size (Normalize vs b) k = absurd (omega arith)
+
+pub plain_long : (ws : List ℕ) (c : Statement) → ws ≡ code.statement c → get_or ws 0 0 < 4 → 3 ≤ length ws
+plain_long ws c e k = rw e (plain_size c (rw e at k))
 
 -- the draw of a sample; another where there is none
 abbrev pub draw : Statement → Draw
@@ -61,6 +105,13 @@ draw_part {n} {ws} h k = record { tree = draw h.tree; is = ap (drop 3) h.is ∙ 
   where
     first : word h.tree 0 ≡ 1
     first = sym (ap (λ (l : List ℕ). get_or l 0 0) h.is) ∙ k
+
+-- the words that the code casts to 32 bits
+pub decrement_small : {n : ℕ} {ws : List ℕ} → StatementIs n ws → get_or ws 0 0 ≡ 3 → get_or ws 2 0 ≤ ranges.top
+decrement_small h k = let x = decrement_here h.tree (begins_whole h.is) k in omega (arith, x.offset_is, (decrement_bounds x.same h.within).1)
+
+pub offset_small : {n : ℕ} {ws : List ℕ} → StatementIs n ws → get_or ws 0 0 ≡ 2 → get_or ws 6 0 ≤ ranges.top
+offset_small h k = let x = assign_here h.tree (begins_whole h.is) k in omega (arith, x.offset_is, (assign_bounds x.same h.within).2)
 
 -- the factor of an assign; with no addend its word is 0
 factor_within : {n : ℕ} (c : Statement) → StatementWithin n c → word c 0 ≡ 2 → word c 4 ≤ ranges.top

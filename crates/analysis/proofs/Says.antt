@@ -5,9 +5,11 @@ use Prim.Native.Nat.{ℕ}
 use lib.ListN.{set}
 use Rattle.std.specs.Prelude.{Result, Ok, Err, IsErrAnd}
 use Rattle.states.specs.declared.Refusal.{Refusal}
-use Rattle.states.specs.Answers.{Answer, Gives, Refuses, and_then}
+use Rattle.states.specs.Answers.{Answer, Gives, Refuses, and_then, outcome, refusal}
+use Rattle.paper.specs.Rules as rules
 use Rattle.paper.specs.Trace.{after, mark}
-use Rattle.analysis.specs.Outcomes.{answer_by}
+use Rattle.analysis.specs.declared.LoopAnswer.{LoopAnswer}
+use Rattle.analysis.specs.Outcomes.{answer_by, a_loop, looped}
 use Rattle.analysis.specs.Noted.{Noted, plain, then_noted, from, ending, Says}
 
 pub mark_append : (p q m : List ℕ) → mark (p ++ q) m ≡ mark q (mark p m)
@@ -76,3 +78,20 @@ module _ {A B : Type 0} {x : Noted A} {m m₁ : List ℕ} where
 pub stopped : {A C : Type 0} {x : Noted A} (f : C → A) (r : Result C Refusal) {d : Refusal} {m m₁ : List ℕ} → IsErrAnd r (λ y. y ≡ d) → Says x (Refuses d.number d.place) m m₁ → Says x (answer_by f r) m m₁
 stopped f (Err y) e s = rw e s
 stopped f (Ok y) e s = absurd e
+
+-- what the code's result says of the rules' answer
+pub answered_good : {A : Type 0} (a : Answer A) {x : A} → Ok x ≡ outcome a → a ≡ Gives x
+answered_good (Gives y) e = cc
+answered_good (Refuses number place) e = cc
+
+pub answered_refused : {A : Type 0} (a : Answer A) {d : Refusal} → Err d ≡ outcome a → a ≡ Refuses d.number d.place
+answered_refused (Gives y) e = cc
+answered_refused (Refuses number place) {d} e = let same : d ≡ refusal number place = cc in rw same
+
+pub looped_good : (a : Answer rules.Looped) {l : LoopAnswer} → Ok l ≡ looped a → a ≡ Gives (a_loop l)
+looped_good (Gives x) {l} e = cc
+looped_good (Refuses number place) e = cc
+
+pub looped_refused : (a : Answer rules.Looped) {d : Refusal} → Err d ≡ looped a → a ≡ Refuses d.number d.place
+looped_refused (Gives x) e = cc
+looped_refused (Refuses number place) {d} e = let same : d ≡ refusal number place = cc in rw same

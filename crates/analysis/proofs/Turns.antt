@@ -2,7 +2,7 @@
 use mathlib.Core.Path.{◌≡◌, sym, ap, ◌∙◌, subst}
 use mathlib.Core.Bool.{Bool, true, false}
 use mathlib.Core.List.{List, []}
-use Prim.Native.Nat.{ℕ, suc, ◌+◌, ◌-◌, ◌<◌, ◌≤◌}
+use Prim.Native.Nat.{ℕ, zero, suc, ◌+◌, ◌-◌, ◌<◌, ◌≤◌}
 use native.Mathlib.Omega.{arith}
 use Rattle.std.specs.Prelude.{Option, Some, None}
 use Rattle.states.specs.declared.State.{State}
@@ -21,6 +21,29 @@ use Rattle.analysis.specs.Noted.{Noted, then_noted, ending, Says}
 use Rattle.analysis.specs.Sought.{Sought, sought, at_rest}
 use Rattle.analysis.proofs.Rests.{mark_again, search_is, rests, rests_by}
 use Rattle.analysis.proofs.Says.{Leads, leads_self, leads_then, leads_by, says_plain, then_good, then_refused, ending_good, ending_refused}
+
+-- ---- what the search found
+
+-- an index found is below the number of passes
+module _ (n : ℕ) (pass : State → Answer rules.Pass) (exit : State → Answer State) where
+  search_below : (k i : ℕ) (s : State) (j : ℕ) → rules.search n pass exit k i s ≡ Gives (rules.AtPass j) → j < i + k
+  unfolding rules.search
+  search_below zero i s j e = absurd (let z : ◌≡◌ {A = ℕ} 0 1 = cc in omega arith)
+  search_below (suc k) i s j e = by_pass (pass s) (λ t q. search_below k (i + 1) t j q) e
+    where
+      by_test : (p : rules.Pass) (c : Bool) → ((t : State) → rules.search n pass exit k (i + 1) t ≡ Gives (rules.AtPass j) → j < i + 1 + k) →
+          elim c [ true ↦ Gives (rules.AtPass i) | false ↦ rules.search n pass exit k (i + 1) p.next ] ≡ Gives (rules.AtPass j) → j < i + suc k
+      by_test p true more q = let h : i ≡ j = cc in omega arith
+      by_test p false more q = omega (arith, more p.next q)
+
+      by_pass : (a : Answer rules.Pass) → ((t : State) → rules.search n pass exit k (i + 1) t ≡ Gives (rules.AtPass j) → j < i + 1 + k) →
+          and_then a (λ p. elim (states.same n s p.next) [ true ↦ Gives (rules.AtPass i) | false ↦ rules.search n pass exit k (i + 1) p.next ]) ≡ Gives (rules.AtPass j) → j < i + suc k
+      by_pass (Gives p) more q = by_test p (states.same n s p.next) more q
+      by_pass (Refuses number place) more q = absurd (let z : ◌≡◌ {A = ℕ} 0 1 = cc in omega arith)
+
+pub search_few : (g : Setting) (at : ℕ) (e : Event) (b : Statements) (s : State) {f : rules.Found} {m m₁ : List ℕ} → Says (noted.search g at e b 100 0 s) (Gives f) m m₁ → rules.search_passes f ≤ 100
+search_few g at e b s {f = rules.AtPass j} q = omega (arith, search_below g.n (noted.pass_by g at e b) (noted.exit_by g at e b) 100 0 s j (sym q.out))
+search_few g at e b s {f = rules.Nowhere} q = omega arith
 
 -- a search that did not stop at rest leaves the loop its own turns, and has made so many passes
 pub record Unrested (turns : ℕ) (found : Option ℕ) (searched : ℕ) : Type 0 where
@@ -42,7 +65,7 @@ module _ (g : Setting) (at : ℕ) (e : Event) (b : Statements) where
 
   module _ (k i : ℕ) where
     -- after a pass of the search, by whether the new state equals the old
-    abbrev searched : State → State → rules.Pass → Bool → Noted Sought
+    abbrev pub searched : State → State → rules.Pass → Bool → Noted Sought
     searched s exits p c = record {
       answer = elim c [
         | true ↦ Gives (record { found = rules.AtPass i; turned = s; exits = states.join g.n exits p.exit })
@@ -52,11 +75,11 @@ module _ (g : Setting) (at : ℕ) (e : Event) (b : Statements) where
     }
 
     -- after an unrolled pass
-    abbrev turned : State → rules.Pass → Noted rules.Pass
+    abbrev pub turned : State → rules.Pass → Noted rules.Pass
     turned exits p = noted.unrolled g at e b (k - (i + 1)) (from_here p.next (states.join g.n exits p.exit))
 
     -- after a pass by which the state s may grow, by whether the new state lies within it
-    abbrev grows : (State → State → State) → State → rules.Pass → Bool → Noted rules.Settling
+    abbrev pub grows : (State → State → State) → State → rules.Pass → Bool → Noted rules.Settling
     grows grow s p c = record {
       answer = elim c [ true ↦ Gives (record { settled = true; at = s; passes = i + 1 }) | false ↦ (noted.growing g at e b grow (k - (i + 1)) (i + 1) (grow s p.next)).answer ];
       places = elim c [ true ↦ [] | false ↦ (noted.growing g at e b grow (k - (i + 1)) (i + 1) (grow s p.next)).places ];
@@ -148,7 +171,7 @@ module _ (g : Setting) (at : ℕ) (e : Event) (b : Statements) where
   widens s passes = ending (noted.growing g at e b (states.widen g.n) (g.n + g.n + 1) 0 s) (λ w. Gives (record { at = w.at; joined = passes; widened = w.passes }))
 
   -- after the joining stage, by whether it settled
-  abbrev joins : rules.Settling → Bool → Noted rules.Settled
+  abbrev pub joins : rules.Settling → Bool → Noted rules.Settled
   joins j c = record {
     answer = elim c [ true ↦ Gives (record { at = j.at; joined = j.passes; widened = 0 }) | false ↦ (widens j.at j.passes).answer ];
     places = elim c [ true ↦ [] | false ↦ (widens j.at j.passes).places ];
@@ -199,7 +222,7 @@ module _ (g : Setting) (at : ℕ) (e : Event) (b : Statements) where
 
   module _ (u : ℕ) (s : State) where
     -- what follows a search that found f
-    abbrev settles : rules.Found → rules.Pass → Noted rules.Looped
+    abbrev pub settles : rules.Found → rules.Pass → Noted rules.Looped
     settles f t = ending (noted.settle g at e b t.next) (noted.finish g at e b u s f t)
 
     one_loop : {m : List ℕ} → Leads (noted.loop g at e b u s) m (then_noted (noted.search g at e b 100 0 s) (noted.onward g at e b u s)) m
@@ -210,18 +233,18 @@ module _ (g : Setting) (at : ℕ) (e : Event) (b : Statements) where
     found_in a = and_then a (λ (r : Sought). Gives r.found)
 
     -- the search as the code makes it finds what the search finds
-    search_says : {a : Answer Sought} {m m₁ : List ℕ} → Says (noted.sought g at e b 100 0 (from_here s states.empty)) a m m₁ → Says (noted.search g at e b 100 0 s) (found_in a) m m₁
-    search_says q = record {
-      out = ap found_in q.out ∙ sym (search_is g.n (noted.pass_by g at e b) (noted.exit_by g at e b) (noted.entered_by g at e b) 100 0 (from_here s states.empty));
+    pub search_says : (t : rules.Pass) {a : Answer Sought} {m m₁ : List ℕ} → Says (noted.sought g at e b 100 0 t) a m m₁ → Says (noted.search g at e b 100 0 t.next) (found_in a) m m₁
+    search_says t q = record {
+      out = ap found_in q.out ∙ sym (search_is g.n (noted.pass_by g at e b) (noted.exit_by g at e b) (noted.entered_by g at e b) 100 0 t);
       marks = q.marks;
     }
 
     pub loop_unsearched : {number place : ℕ} {m m₁ : List ℕ} → Says (noted.sought g at e b 100 0 (from_here s states.empty)) (Refuses number place) m m₁ → Says (noted.loop g at e b u s) (Refuses number place) m m₁
-    loop_unsearched q = one_loop.on (then_refused (noted.onward g at e b u s) (search_says q))
+    loop_unsearched q = one_loop.on (then_refused (noted.onward g at e b u s) (search_says (from_here s states.empty) q))
 
     module _ {r : Sought} {m m₁ : List ℕ} (q : Says (noted.sought g at e b 100 0 (from_here s states.empty)) (Gives r) m m₁) where
       pub loop_searched : Leads (noted.loop g at e b u s) m (noted.onward g at e b u s r.found) m₁
-      loop_searched = leads_then one_loop (then_good (noted.onward g at e b u s) (search_says q))
+      loop_searched = leads_then one_loop (then_good (noted.onward g at e b u s) (search_says (from_here s states.empty) q))
 
       -- a search that found a pass no sooner than the loop's own turns has made every pass
       pub loop_rests : {i : ℕ} → r.found ≡ rules.AtPass i → u ≤ i → Says (noted.loop g at e b u s) (Gives (at_rest i r)) m m₁
@@ -233,14 +256,14 @@ module _ (g : Setting) (at : ℕ) (e : Event) (b : Statements) where
             ∙ ap (λ (l : List ℕ). mark l m) (sym (rests_by g.n (noted.pass_by g at e b) (noted.exit_by g at e b) (noted.entered_by g at e b) leaves u s r i (sym q.out) f few));
       }
 
-    module _ (f : rules.Found) (many : rules.unroll_passes u f ≡ u) where
-      turns_so : {a : Answer rules.Pass} {m m₁ : List ℕ} → Says (noted.unrolled g at e b u (from_here s states.empty)) a m m₁ → Says (noted.unrolled g at e b (rules.unroll_passes u f) (from_here s states.empty)) a m m₁
+    module _ (f : rules.Found) {k : ℕ} (many : rules.unroll_passes u f ≡ k) where
+      turns_so : {a : Answer rules.Pass} {m m₁ : List ℕ} → Says (noted.unrolled g at e b k (from_here s states.empty)) a m m₁ → Says (noted.unrolled g at e b (rules.unroll_passes u f) (from_here s states.empty)) a m m₁
       turns_so q = (leads_by (ap (λ (i : ℕ). noted.unrolled g at e b i (from_here s states.empty)) many)).on q
 
-      pub loop_unturned : {number place : ℕ} {m m₁ : List ℕ} → Says (noted.unrolled g at e b u (from_here s states.empty)) (Refuses number place) m m₁ → Says (noted.onward g at e b u s f) (Refuses number place) m m₁
+      pub loop_unturned : {number place : ℕ} {m m₁ : List ℕ} → Says (noted.unrolled g at e b k (from_here s states.empty)) (Refuses number place) m m₁ → Says (noted.onward g at e b u s f) (Refuses number place) m m₁
       loop_unturned q = then_refused (settles f) (turns_so q)
 
-      pub loop_turned : {t : rules.Pass} {m m₁ : List ℕ} → Says (noted.unrolled g at e b u (from_here s states.empty)) (Gives t) m m₁ → Leads (noted.onward g at e b u s f) m (settles f t) m₁
+      pub loop_turned : {t : rules.Pass} {m m₁ : List ℕ} → Says (noted.unrolled g at e b k (from_here s states.empty)) (Gives t) m m₁ → Leads (noted.onward g at e b u s f) m (settles f t) m₁
       loop_turned q = then_good (settles f) (turns_so q)
 
     module _ (f : rules.Found) (t : rules.Pass) where
@@ -260,7 +283,7 @@ module _ (g : Setting) (at : ℕ) (e : Event) (b : Statements) where
         unfolding left_by
         loop_unleft w = finished w
 
-        loop_left : {x : rules.Sides} → rules.event g (at + 3) e z.at ≡ Gives x → Says (settles f t) (Gives (noted.summary g at e b u s f t z x.no)) m m₁
+        pub loop_left : {x : rules.Sides} → rules.event g (at + 3) e z.at ≡ Gives x → Says (settles f t) (Gives (noted.summary g at e b u s f t z x.no)) m m₁
         unfolding left_by
         loop_left w = finished w
 

@@ -22,7 +22,7 @@ use Rattle.analysis.specs.declared.parts.Branch.{Branch}
 use Rattle.analysis.specs.declared.parts.Loop.{Loop}
 use Rattle.analysis.specs.Parts.{BranchOf, LoopAt}
 use Rattle.words.specs.Parts.{Begins, ListWithin, StatementAt, StatementIs}
-use Rattle.words.proofs.Parts.{begins_at}
+use Rattle.words.proofs.Parts.{begins_whole, begins_at, begins_tail}
 use Rattle.words.proofs.Nodes.{NextAt, next_here, statement_some, done_here, statement_ends}
 use Rattle.words.proofs.Bounds.{next_bounds}
 use Rattle.analysis.specs.Noted as noted
@@ -48,18 +48,18 @@ entered_block g at t s m {a} {m₂ = m₂} e h = (entered_if (states.is_live s) 
 -- ---- a list
 
 module _ (g : Setting) (at : ℕ) (c : Statement) (cs : Statements) (s : State) where
-  abbrev rest_of : State → Noted State
+  abbrev pub rest_of : State → Noted State
   rest_of t = noted.list g (at + length (code.statement c)) cs t
 
-  list_on : {v : State} {m m₁ : List ℕ} → Says (noted.statement g at c s) (Gives v) m m₁ → Leads (noted.list g at (c then cs) s) m (rest_of v) m₁
+  pub list_on : {v : State} {m m₁ : List ℕ} → Says (noted.statement g at c s) (Gives v) m m₁ → Leads (noted.list g at (c then cs) s) m (rest_of v) m₁
   unfolding rules.list trace.list
   list_on q = then_good rest_of q
 
-  list_refused : {number place : ℕ} {m m₁ : List ℕ} → Says (noted.statement g at c s) (Refuses number place) m m₁ → Says (noted.list g at (c then cs) s) (Refuses number place) m m₁
+  pub list_refused : {number place : ℕ} {m m₁ : List ℕ} → Says (noted.statement g at c s) (Refuses number place) m m₁ → Says (noted.list g at (c then cs) s) (Refuses number place) m m₁
   unfolding rules.list trace.list
   list_refused q = then_refused rest_of q
 
-list_done : (g : Setting) (at : ℕ) (s : State) (m : List ℕ) → Says (noted.list g at done s) (Gives s) m m
+pub list_done : (g : Setting) (at : ℕ) (s : State) (m : List ℕ) → Says (noted.list g at done s) (Gives s) m m
 unfolding rules.list trace.list
 list_done g at s m = says_plain (Gives s) m
 
@@ -82,8 +82,19 @@ pub record Going (g : Setting) (base : ℕ) (ws : List ℕ) (s₀ : State) (m₀
   pub rest : Statements
   pub is : Begins ws at (code.list rest)
   pub counts : i + code.count rest ≡ k
+  pub ends : at + length (code.list rest) ≡ length ws
   pub within : ListWithin g.n t → ListWithin g.n rest
   pub leads : Leads (noted.list g (base + 1) t s₀) m₀ (noted.list g (base + at) rest s) m
+
+pub going_first : (g : Setting) (base : ℕ) (ws : List ℕ) (s : State) (m : List ℕ) (t : Statements) → ws ≡ code.program t → Going g base ws s m t 0 (get_or ws 0 0) 1 s m
+going_first g base ws s m t e = record {
+  rest = t;
+  is = begins_tail (begins_whole e);
+  counts = let q = ap (λ (l : List ℕ). get_or l 0 0) e in omega arith;
+  ends = let q = ap length e in omega arith;
+  within = λ w. w;
+  leads = leads_self;
+}
 
 module _ {g : Setting} {base : ℕ} {ws : List ℕ} {s₀ : State} {m₀ : List ℕ} {t : Statements} {i k at : ℕ} {s : State} {m : List ℕ} (G : Going g base ws s₀ m₀ t i k at s m) where
   -- no statement is left
@@ -127,6 +138,7 @@ module _ {g : Setting} {base : ℕ} {ws : List ℕ} {s₀ : State} {m₀ : List 
           rest = going_next.tail;
           is = begins_at (let l = ap length next_words in let e : at + length (code.statement going_next.head) ≡ at + length words = omega arith in e) going_next.tail_is;
           counts = omega (arith, G.counts, going_next.counts);
+          ends = let l = ap length next_words in omega (arith, G.ends, going_next.size);
           within = λ w. (next_bounds going_next.same (G.within w)).1;
           leads = record {
             on = λ {a} {m'} h. from_next ((list_on g (base + at) going_next.head going_next.tail s (here q)).on
@@ -149,10 +161,10 @@ module _ (g : Setting) {base size : ℕ} {c : Statement} {parts : Branch} (k : B
   abbrev an_if : Statement
   an_if = IfThenElse k.event k.then_list k.else_list
 
-  abbrev otherwise : rules.Sides → State → Noted State
+  abbrev pub otherwise : rules.Sides → State → Noted State
   otherwise z a = ending (noted.block g (code.else_at base k.event k.then_list) k.else_list z.no) (λ b. Gives (states.join g.n a b))
 
-  abbrev branches : rules.Sides → Noted State
+  abbrev pub branches : rules.Sides → Noted State
   branches z = then_noted (noted.block g (code.then_at base k.event) k.then_list z.yes) (otherwise z)
 
   is_if : {a : Answer State} {m₁ : List ℕ} → Says (noted.statement g base an_if s) a m m₁ → Says (noted.statement g base c s) a m m₁

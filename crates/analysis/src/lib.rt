@@ -13,6 +13,7 @@ ghost use Rattle.analysis.specs.Outcomes.{looped};
 ghost use Rattle.paper.specs.Answers as answers;
 ghost use Rattle.states.specs.Answers.{outcome};
 
+pub use stages::{Settled, Settling, Sought};
 use states::{Refusal, Start, State};
 
 // What the analysis of a loop gives: its result, the state after the unrolled turns, the settled state and the four counts of passes.

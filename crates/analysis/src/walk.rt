@@ -88,7 +88,7 @@ fn branch(part: Part, setting: Setting, state: &mut State, marks: &mut [u8]) -> 
     ensures { (c : Statement) → part.entry.words.now ≡ code.statement c → Says (noted.statement (setting_of setting) part.entry.base c state.old) (in_place state.new result) marks.old marks.new }
 {
     let parts = Branch::of(part);
-    let mut sides = event::sides(parts.event, setting, state)?;
+    let mut sides = event::sides(parts.event, setting.n, state)?;
     block(parts.then, setting, &mut sides.yes, marks)?;
     block(parts.otherwise, setting, &mut sides.no, marks)?;
     *state = sides.yes.join(&sides.no, setting.n);
@@ -124,7 +124,7 @@ fn pass(
     requires within_marks { parts.body.base + length parts.body.words.now ≤ length marks.old }
     ensures { (at : ℕ) (e : Event) (b : Statements) → LoopAt at e b parts.entry → Says (noted.pass (setting_of setting) at e b state.old) (answer_by (a_pass state.new) result) marks.old marks.new }
 {
-    let sides = event::sides(parts.event, setting, state)?;
+    let sides = event::sides(parts.event, setting.n, state)?;
     *state = sides.yes;
     block(parts.body, setting, state, marks)?;
     Ok(sides.no)
@@ -272,7 +272,7 @@ pub fn looped(
     let exits = unrolled(parts, setting, &mut turned, marks)?;
     let mut settled = turned;
     let passes = settle(parts, setting, &mut settled, marks)?;
-    let last = event::sides(parts.event, setting, &settled)?;
+    let last = event::sides(parts.event, setting.n, &settled)?;
     Ok(LoopAnswer {
         exits: exits.join(&last.no, setting.n),
         turned,

@@ -1,21 +1,53 @@
--- What the rules say of an event by the words of its code, and of a list of events one by one.
-use mathlib.Core.Path.{◌≡◌, refl, sym}
+-- What the rules say of a draw and of an event by the words of its code, and of a list of events one by one.
+use mathlib.Core.Path.{◌≡◌, refl, sym, ap, ◌∙◌}
+use mathlib.Core.Bool.{false, false≢true}
 use mathlib.Core.List.{List, ◌++◌}
-use Prim.Native.Nat.{ℕ, zero, suc, ◌+◌, ◌<◌, ◌≤◌}
+use Prim.Native.Nat.{ℕ, zero, suc, ◌+◌, ◌-◌, ◌<◌, ◌≤◌}
 use native.Mathlib.Nat.{suc-add}
 use native.Mathlib.Omega.{arith}
 use lib.ListN.{length, get_or, drop}
+use Rattle.std.specs.Prelude.{Option, Some, None}
+use Rattle.ranges.specs.declared.Range.{Range}
+use Rattle.std.specs.Prelude.{Ok, slice_range}
 use Rattle.ranges.specs.Ranges as ranges
-use Rattle.states.specs.Answers.{Gives, and_then}
+use Rattle.states.specs.Answers.{Answer, Gives, Refuses, and_then}
 use Rattle.states.specs.declared.State.{State}
+use Rattle.states.specs.declared.State.TheVariants as state
 use Rattle.states.specs.States as states
+use Rattle.paper.specs.Tree.{Draw, Dirac, Bernoulli, BernoulliVarProb, BinomialVarTrials, Binomial, Categorical, NegBinomialVarSuccesses, NegBinomial, Geometric, Poisson, PoissonVarRate, Uniform}
 use Rattle.paper.specs.Tree.{Event, InSet, VarComparison, DataFromDist, Complement, Intersection, Events, none, ◌also◌}
 use Rattle.paper.specs.Code as code
 use Rattle.paper.specs.Rules as rules
+use Rattle.events.specs.Sided.{sided}
+use Rattle.events.specs.declared.Sides.{Sides}
 use Rattle.words.specs.Parts.{Begins, conjunction, EventWithin, EventsWithin}
-use Rattle.words.proofs.Parts.{begins_whole, begins_at, begins_left, begins_right, begins_tail, begins_ends}
+use Rattle.words.proofs.Parts.{begins_whole, begins_at, begins_head, begins_left, begins_right, begins_tail, begins_ends}
 use Rattle.words.proofs.Nodes.{event_some}
 use Rattle.words.proofs.Bounds.{next_event_bounds}
+
+-- ---- a draw
+
+-- the kinds that have no end: 4, 7 to 11
+pub drawn_open : {ws : List ℕ} (d : Draw) → ws ≡ code.draw d
+    → (get_or ws 0 0 ≡ 1 → ⊥)
+    → (get_or ws 0 0 ≡ 2 → ⊥)
+    → (get_or ws 0 0 ≡ 3 → ⊥)
+    → (get_or ws 0 0 ≡ 5 → ⊥)
+    → (get_or ws 0 0 ≡ 6 → ⊥)
+    → (get_or ws 0 0 ≡ 12 → ⊥)
+    → ranges.naturals ≡ rules.drawn d
+drawn_open (Dirac p q) h k1 k2 k3 k5 k6 k12 = absurd (k1 (begins_head (begins_whole h)))
+drawn_open Bernoulli h k1 k2 k3 k5 k6 k12 = absurd (k2 (begins_head (begins_whole h)))
+drawn_open (BernoulliVarProb v) h k1 k2 k3 k5 k6 k12 = absurd (k3 (begins_head (begins_whole h)))
+drawn_open (BinomialVarTrials v) h k1 k2 k3 k5 k6 k12 = refl
+drawn_open (Binomial n) h k1 k2 k3 k5 k6 k12 = absurd (k5 (begins_head (begins_whole h)))
+drawn_open (Categorical n) h k1 k2 k3 k5 k6 k12 = absurd (k6 (begins_head (begins_whole h)))
+drawn_open (NegBinomialVarSuccesses v) h k1 k2 k3 k5 k6 k12 = refl
+drawn_open (NegBinomial n) h k1 k2 k3 k5 k6 k12 = refl
+drawn_open Geometric h k1 k2 k3 k5 k6 k12 = refl
+drawn_open Poisson h k1 k2 k3 k5 k6 k12 = refl
+drawn_open (PoissonVarRate v) h k1 k2 k3 k5 k6 k12 = refl
+drawn_open (Uniform a b) h k1 k2 k3 k5 k6 k12 = absurd (k12 (begins_head (begins_whole h)))
 
 -- ---- an event, whose kind is its first word
 
@@ -55,6 +87,15 @@ module _ (g : rules.Setting) (at : ℕ) where
   set_rule (DataFromDist x d) s k = absurd (omega arith)
   set_rule (Complement e) s k = absurd (omega arith)
   set_rule (Intersection es) s k = absurd (omega arith)
+
+  -- of an empty state, that state twice
+  pub set_none : (e : Event) (s : State) → get_or (code.event e) 0 0 ≡ 1 → states.is_live s ≡ false → rules.event g at e s ≡ Gives (record { yes = s; no = s })
+  set_none e (state.Live cells) k dead = absurd (false≢true (sym dead))
+  set_none e state.Empty k dead = set_rule e state.Empty k ∙ by (ranges.remove (states.get state.Empty (get_or (code.event e) 1 0)) (drop 3 (code.event e)))
+    where
+      by : (left : Option Range) → rules.cut at state.Empty (get_or (code.event e) 1 0) (drop 3 (code.event e)) left ≡ Gives (record { yes = state.Empty; no = state.Empty })
+      by (Some r) = refl
+      by None = refl
 
   pub complement_rule :
       (e : Event) (s : State) → get_or (code.event e) 0 0 ≡ 4 →
@@ -141,5 +182,38 @@ end_rule g at zero none t over = refl
 end_rule g at (suc k) none t over = refl
 end_rule g at zero (e also es) t over = absurd (omega arith)
 end_rule g at (suc k) (e also es) t over = end_rule g at k es t (omega arith)
+
+-- what a turn over the next of them knows: where it stands, its words up to its end, and that the rules go on from there with its sides
+module _ {ws : List ℕ} (es : Events) (whole : ws ≡ conjunction es) (k at : ℕ) (more : k < get_or ws 0 0) (left : Begins ws at (code.events (after k es))) where
+  pub few : k < code.count_events es
+  few = omega (arith, ap (λ (l : List ℕ). get_or l 0 0) whole)
+
+  pub here : Begins ws at (code.event (next k es))
+  here = next_is k es few left
+
+module _ {ws : List ℕ} (es : Events) (whole : ws ≡ conjunction es) (k at end : ℕ) (more : k < get_or ws 0 0) (left : Begins ws at (code.events (after k es))) (ends : (e : Event) → Begins ws at (code.event e) → end ≡ at + length (code.event e)) where
+  stands : Begins ws at (code.event (next k es))
+  stands = here es whole k at more left
+
+  pub end_is : end ≡ at + length (code.event (next k es))
+  end_is = ends (next k es) stands
+
+  pub next_ends : (at < end) × (end ≤ length ws)
+  next_ends = (omega (arith, end_is, event_some (next k es)), omega (arith, end_is, begins_ends stands (event_some (next k es))))
+
+  pub next_words : slice_range ws at end ≡ code.event (next k es)
+  next_words = let long : end - at ≡ length (code.event (next k es)) = omega (arith, end_is) in rw long stands.taken
+
+  pub next_left : Begins ws end (code.events (after (k + 1) es))
+  next_left = after_is k es (few es whole k at more left) left end_is
+
+  module _ (g : rules.Setting) (base : ℕ) (t : rules.Sides) {z : Sides} (split : Ok z ≡ sided (rules.event g (base + at) (next k es) t.yes)) where
+    pub next_sides : rules.events g (base + at) (after k es) t ≡ rules.events g (base + end) (after (k + 1) es) (record { yes = z.yes; no = states.join g.n t.no z.no })
+    next_sides = let place : base + at + length (code.event (next k es)) ≡ base + end = omega (arith, end_is) in
+        next_rule g (base + at) k es t (few es whole k at more left) ∙ rw (gives (rules.event g (base + at) (next k es) t.yes) split, place) refl
+      where
+        gives : (a : Answer rules.Sides) → Ok z ≡ sided a → a ≡ Gives (record { yes = z.yes; no = z.no })
+        gives (Gives u) e = let same : z ≡ record { yes = u.yes; no = u.no } = cc in rw same refl
+        gives (Refuses number place) e = absurd cc
 
 pub ruleset of_events = (begins_ends, event_some, next_within, first_is, next_is, after_is, next_rule, end_rule)

@@ -1,5 +1,5 @@
 // Both sides of an event, from the part of the words that codes it.
-ghost use Rattle.std.specs.Prelude.{◌≡◌, ◌+◌, ◌≤◌, drop, length, slice_index};
+ghost use Rattle.std.specs.Prelude.{◌≡◌, ℕ, ◌+◌, ◌≤◌, drop, length, slice_index};
 ghost use Rattle.events.specs.Sided.{sided};
 ghost use Rattle.paper.specs.Code as code;
 ghost use Rattle.paper.specs.Rules as rules;
@@ -9,7 +9,7 @@ ghost use Rattle.states.specs.Answers.{Gives, and_then};
 ghost use Rattle.states.specs.States as states;
 ghost use Rattle.words.specs.Parts.{conjunction, EventIs, EventsAre};
 
-use crate::{Part, Setting, Sides};
+use crate::{Part, Sides};
 use states::{Fault, Refusal, State};
 use words::ends;
 use words::kinds::EventKind;
@@ -34,12 +34,12 @@ fn in_set(part: Part, state: &State) -> Result<Sides, Refusal>
     Ok(sides)
 }
 
-// Both sides of the event that the part is.
+// Both sides of the event that the part is, by the rules for every unroll.
 #[cycle(event_sides)]
 #[tactic(auto, using(crate::proofs::Steps::of_event), unfolding(paper::specs::Code::event))]
-pub fn sides(part: Part, setting: Setting, state: &State) -> Result<Sides, Refusal>
-    requires { EventIs setting.n part.words.now }
-    ensures { (e : Event) → part.entry.words.now ≡ code.event e → result ≡ sided (rules.event (record { n = setting.n; unroll = setting.unroll }) part.entry.base e state.now) }
+pub fn sides(part: Part, n: usize, state: &State) -> Result<Sides, Refusal>
+    requires { EventIs n part.words.now }
+    ensures { (u : ℕ) (e : Event) → part.entry.words.now ≡ code.event e → result ≡ sided (rules.event (record { n = n; unroll = u }) part.entry.base e state.now) }
 {
     match EventKind::of(part.words[0]).unwrap() {
         EventKind::InSet => in_set(part, state),
@@ -47,18 +47,18 @@ pub fn sides(part: Part, setting: Setting, state: &State) -> Result<Sides, Refus
             yes: *state,
             no: *state,
         }),
-        EventKind::Complement => complement(part.rest(1), setting, state),
-        EventKind::Intersection => intersection(part.rest(1), setting, state),
+        EventKind::Complement => complement(part.rest(1), n, state),
+        EventKind::Intersection => intersection(part.rest(1), n, state),
     }
 }
 
 // The sides of the event that the part is, exchanged. Apart from `sides`, which would clear 2 KB at every event for the answer that is here.
 #[cycle(event_sides)]
-fn complement(part: Part, setting: Setting, state: &State) -> Result<Sides, Refusal>
-    requires { EventIs setting.n part.words.now }
-    ensures { (e : Event) → part.entry.words.now ≡ code.event e → result ≡ sided (and_then (rules.event (record { n = setting.n; unroll = setting.unroll }) part.entry.base e state.now) (λ t. Gives (rules.exchanged t))) }
+fn complement(part: Part, n: usize, state: &State) -> Result<Sides, Refusal>
+    requires { EventIs n part.words.now }
+    ensures { (u : ℕ) (e : Event) → part.entry.words.now ≡ code.event e → result ≡ sided (and_then (rules.event (record { n = n; unroll = u }) part.entry.base e state.now) (λ t. Gives (rules.exchanged t))) }
 {
-    let inner = sides(part, setting, state)?;
+    let inner = sides(part, n, state)?;
     Ok(Sides {
         yes: inner.no,
         no: inner.yes,
@@ -68,18 +68,18 @@ fn complement(part: Part, setting: Setting, state: &State) -> Result<Sides, Refu
 // A count, then that many events: on with the true side, the false sides joined from empty.
 #[cycle(event_sides)]
 #[tactic(auto, using(crate::proofs::Steps::of_events))]
-fn intersection(part: Part, setting: Setting, state: &State) -> Result<Sides, Refusal>
-    requires { EventsAre setting.n part.words.now }
-    ensures { (es : Events) → part.entry.words.now ≡ conjunction es → result ≡ sided (rules.events (record { n = setting.n; unroll = setting.unroll }) (part.entry.base + 1) es (record { yes = state.now; no = states.empty })) }
+fn intersection(part: Part, n: usize, state: &State) -> Result<Sides, Refusal>
+    requires { EventsAre n part.words.now }
+    ensures { (u : ℕ) (es : Events) → part.entry.words.now ≡ conjunction es → result ≡ sided (rules.events (record { n = n; unroll = u }) (part.entry.base + 1) es (record { yes = state.now; no = states.empty })) }
 {
     let mut yes = *state;
     let mut no = State::Empty;
     let mut at = 1;
     for _ in 0..part.words[0] {
         let end = ends::event_end(part.words, at);
-        let next = sides(part.cut(at, end), setting, &yes)?;
+        let next = sides(part.cut(at, end), n, &yes)?;
         yes = next.yes;
-        no = no.join(&next.no, setting.n);
+        no = no.join(&next.no, n);
         at = end;
     }
     Ok(Sides { yes, no })

@@ -31,26 +31,26 @@ block-returns t c = λ d h.
 pub branch-returns-in_err-sides : goal.branch-returns-in_err-sides
 branch-returns-in_err-sides t c = λ d h.
     let k = c.of-parts.ensures d h in
-    stopped _ c.from_residual.result c.from_residual.ensures.1 (if_unsplit (setting_of c.args.setting) k c.args.state.now c.args.marks.now (c.in_err-sides.ensures k.event k.event_words))
+    stopped _ c.from_residual.result c.from_residual.ensures.1 (if_unsplit (setting_of c.args.setting) k c.args.state.now c.args.marks.now (c.in_err-sides.ensures c.args.setting.unroll k.event k.event_words))
 
 pub branch-returns-in_err-block : goal.branch-returns-in_err-block
 branch-returns-in_err-block t c = λ d h.
     let k = c.of-parts.ensures d h in
-    let split = c.in_ok-sides.ensures k.event k.event_words in
+    let split = c.in_ok-sides.ensures c.args.setting.unroll k.event k.event_words in
     stopped _ c.from_residual-in_err-block.result c.from_residual-in_err-block.ensures.1
     (if_then_refused (setting_of c.args.setting) k c.args.state.now c.args.marks.now split (c.in_err-block.ensures k.then_list k.then_words))
 
 pub branch-returns-in_err-block-2 : goal.branch-returns-in_err-block-2
 branch-returns-in_err-block-2 t c = λ d h.
     let k = c.of-parts.ensures d h in
-    let split = c.in_ok-sides.ensures k.event k.event_words in
+    let split = c.in_ok-sides.ensures c.args.setting.unroll k.event k.event_words in
     stopped _ c.from_residual-in_err-block-2.result c.from_residual-in_err-block-2.ensures.1
     (if_else_refused (setting_of c.args.setting) k c.args.state.now c.args.marks.now split (c.in_ok-block.ensures k.then_list k.then_words) (c.in_err-block-2.ensures k.else_list k.else_words))
 
 pub branch-returns : goal.branch-returns
 branch-returns t c = λ d h.
     let k = c.of-parts.ensures d h in
-    let split = c.in_ok-sides.ensures k.event k.event_words in
+    let split = c.in_ok-sides.ensures c.args.setting.unroll k.event k.event_words in
     rw c.join.ensures
     (if_joined (setting_of c.args.setting) k c.args.state.now c.args.marks.now split (c.in_ok-block.ensures k.then_list k.then_words) (c.in_ok-block-2.ensures k.else_list k.else_words))
 
@@ -58,7 +58,7 @@ branch-returns t c = λ d h.
 
 pub pass-returns-in_err-sides : goal.pass-returns-in_err-sides
 pass-returns-in_err-sides t c = λ at e b k.
-    stopped _ c.from_residual.result c.from_residual.ensures.1 (pass_refused (setting_of c.args.setting) k c.args.state.now (c.in_err-sides.ensures e k.event_words))
+    stopped _ c.from_residual.result c.from_residual.ensures.1 (pass_refused (setting_of c.args.setting) k c.args.state.now (c.in_err-sides.ensures c.args.setting.unroll e k.event_words))
 
 -- a list: the next statement of what is left stands at `at`
 
@@ -266,7 +266,7 @@ looped-returns-in_err-last t c = λ u e b h.
     let was = a_pass c.unrolled.new.state c.in_ok-exits.exits in
     stopped _ c.from_residual-in_err-last.result c.from_residual-in_err-last.ensures.1
     (loop_by g base e b c.args.state.now k.turns
-    (on.on (loop_unleft g base e b turns c.args.state.now f was (c.in_ok-passes.ensures base e b k.at) (loop_event g k.at c.settle.new.state (c.in_err-last.ensures e k.at.event_words)))))
+    (on.on (loop_unleft g base e b turns c.args.state.now f was (c.in_ok-passes.ensures base e b k.at) (loop_event g k.at c.settle.new.state (c.in_err-last.ensures c.args.setting.unroll e k.at.event_words)))))
 
 pub looped-returns : goal.looped-returns
 looped-returns t c = λ u e b h.
@@ -281,7 +281,7 @@ looped-returns t c = λ u e b h.
     let was = a_pass c.unrolled.new.state c.in_ok-exits.exits in
     rw c.join.ensures
     (loop_by g base e b c.args.state.now k.turns
-    (on.on (loop_ends g base e b turns c.args.state.now z was (c.in_ok-passes.ensures base e b k.at) (loop_event g k.at c.settle.new.state (c.in_ok-last.ensures e k.at.event_words)))))
+    (on.on (loop_ends g base e b turns c.args.state.now z was (c.in_ok-passes.ensures base e b k.at) (loop_event g k.at c.settle.new.state (c.in_ok-last.ensures c.args.setting.unroll e k.at.event_words)))))
 
 -- normalize: the first given variable has values in its range, each of which the rest is enumerated for
 
