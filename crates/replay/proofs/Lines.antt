@@ -15,6 +15,16 @@ use Rattle.text.specs.Answers.{Outcome, leaves, of_printed, refused, done}
 use Rattle.text.specs.Line.{printed}
 use Rattle.replay.specs.Records.{Unbroken, Line, Prints, Record, Replayed, begin, agrees, differs, next, part}
 
+-- One byte more that is no line feed.
+pub one_further : (list : List ℕ) (from at : ℕ) → Unbroken list from at → (get_or list at 0 ≡ 0x0A → ⊥) → Unbroken list from (at + 1)
+one_further list from at before here i low high is = by_test (ltb i at) refl
+  where
+    by_test : (b : Bool) → ltb i at ≡ b → ⊥
+    by_test true e = before i low (ltb-true i at e) is
+    by_test false e =
+        let same : i ≡ at = omega (arith, ltb-false i at e) in
+        here (rw (← same) is)
+
 -- A line ends at the first line feed from where it begins on, or with the list.
 module _ (list : List ℕ) (from : ℕ) (h : from ≤ length list) where
   -- the bytes from there on

@@ -2,11 +2,22 @@
 ghost use Rattle.std.specs.Prelude.{◌≡◌, ℕ, ◌+◌, ◌*◌, ◌≤◌, ◌<◌, List, [], ◌++◌, length, take};
 ghost use Rattle.states.specs.Answers.{answer_of};
 ghost use Rattle.text.specs.Answers as answers;
+ghost use Rattle.text.specs.Draft.{Put};
 ghost use Rattle.text.specs.Line as lines;
 
 use ranges::Range;
 use states::{Cell, Refusal, State};
 use std::marker::Model;
+
+// Puts bytes into a buffer from `at` on, and answers the place after them; its callers keep the room.
+pub fn put_bytes(buffer: &mut [u8], at: usize, bytes: &[u8]) -> usize
+    requires { at + length bytes.now ≤ length buffer.old }
+    ensures { Put buffer.old at bytes.now result buffer.new }
+{
+    let end = at + bytes.len();
+    buffer[at..end].copy_from_slice(bytes);
+    end
+}
 
 // What is put together of a line: the first `length` bytes. To a contract it is the list of these. Every line has room in it.
 #[derive(Drop)]
@@ -44,9 +55,7 @@ impl Draft {
         requires { length self.old + length bytes.now ≤ 2048 }
         ensures { self.new ≡ self.old ++ bytes.now }
     {
-        let end = self.length + bytes.len();
-        self.bytes[self.length..end].copy_from_slice(bytes);
-        self.length = end;
+        self.length = put_bytes(&mut self.bytes, self.length, bytes);
     }
 
     // A number in decimal: the digits of all but its last one, then that one.
@@ -167,6 +176,6 @@ pub fn line(answer: &Result<State, Refusal>, n: usize, out: &mut [u8]) -> Option
     if out.len() < line.len() {
         return None;
     }
-    out[..line.len()].copy_from_slice(line);
+    put_bytes(out, 0, line);
     Some(line.len())
 }

@@ -54,15 +54,31 @@ fn in_digits(value: u64, byte: u8) -> Move
     }
 }
 
-// What a byte does in a mode. A number is told first: most bytes of a long text are in one, and a jump by the mode for each costs a fifth.
+// A blank ends a number, and is passed over elsewhere. Mode by mode: to hand on the mode as it came would copy a number's value at every byte.
+fn blank(mode: Mode) -> Move
+    ensures { result ≡ machine.step mode machine.Blank 0x20 }
+{
+    match mode {
+        Mode::Start => Move::To(Mode::Start),
+        Mode::Opened => Move::To(Mode::Opened),
+        Mode::Digits(value) => Move::Push(value, Mode::Ended),
+        Mode::Ended => Move::To(Mode::Ended),
+        Mode::Parted => Move::To(Mode::Parted),
+        Mode::Closed => Move::To(Mode::Closed),
+    }
+}
+
+// What a byte does in a mode. Numbers and then blanks, which long texts are made of, are told first: a jump by the mode for each byte costs a fifth.
 fn step(mode: Mode, byte: u8) -> Move
     ensures { result ≡ machine.step mode (machine.class_of byte) byte }
 {
     if let Mode::Digits(value) = mode {
         return in_digits(value, byte);
     }
+    if matches!(byte, b' ' | b'\t' | b'\n' | b'\r') {
+        return blank(mode);
+    }
     match (mode, byte) {
-        (_, b' ' | b'\t' | b'\n' | b'\r') => Move::To(mode),
         (Mode::Opened | Mode::Parted, b'0') => Move::Push(0, Mode::Ended),
         (Mode::Opened | Mode::Parted, b'1'..=b'9') => {
             Move::To(Mode::Digits(u64::from(byte - b'0')))

@@ -1,7 +1,7 @@
 -- What each way of the code comes to is what the job says.
-use Rattle.std.proofs.Common.{◌≡◌, refl, ap, ◌∙◌, List, ◌++◌, ℕ, ◌*◌, ◌≤◌, min, length, take, drop, Ok, Err, arith}
+use Rattle.std.proofs.Common.{◌≡◌, refl, ap, ◌∙◌, List, ◌++◌, ℕ, ◌*◌, ◌≤◌, ◌<◌, min, length, take, drop, Ok, Err, arith}
 use lib.Seq.{take-append_seam}
-use borrow.Author.Tests.{le-ltb}
+use borrow.Author.Tests.{lt-ltb, le-ltb}
 use Rattle.states.specs.declared.Refusal.{Refusal}
 use Rattle.states.specs.States.{zeros}
 use Rattle.states.specs.Answers.{Answer, Gives, Refuses, and_then}
@@ -51,6 +51,10 @@ module _ (text before : List ℕ) (count : ℕ) (short : length text ≤ 65536) 
 -- the answer for n variables
 abbrev ran_with : List ℕ → ℕ → Answer Outcome
 ran_with ws n = and_then (analysed ws n zeros 0) (λ s. Gives (record { n = n; state = s }))
+
+pub ran_long : (ws : List ℕ) → 8192 < length ws → ran ws ≡ Refuses 4 0
+unfolding ran
+ran_long ws h = rw (lt-ltb 8192 (length ws) h, ran)
 
 pub ran_bad : (ws : List ℕ) {r : Refusal} → length ws ≤ 8192 → Err r ≡ checked (reader.program ws 64) → ran ws ≡ Refuses r.number r.place
 unfolding ran checked

@@ -1,6 +1,6 @@
 -- The marks beside the line are those of the rules' trace, a byte for each word.
-use Rattle.std.proofs.Common.{◌≡◌, refl, sym, ap, ◌∙◌, List, [], ◌∷◌, ℕ, zero, suc, ◌≤◌, take, replicate, arith}
-use Rattle.std.proofs.Math.ListN.{set}
+use Rattle.std.proofs.Common.{◌≡◌, refl, sym, ap, ◌∙◌, List, [], ◌∷◌, ℕ, zero, suc, ◌≤◌, length, take, replicate, arith}
+use Rattle.std.proofs.Math.ListN.{set, length-set}
 use Rattle.paper.specs.Trace.{mark}
 
 -- marks behind the first k leave those as they are
@@ -23,3 +23,9 @@ take_replicate (suc k) (suc m) h = ap (λ (l : List ℕ). 0 ∷ l) (take_replica
 -- the marks of k words are the first k of 8,192
 pub marks_kept : (places : List ℕ) (k : ℕ) → k ≤ 8192 → mark places (replicate k 0) ≡ take k (mark places (replicate 8192 0))
 marks_kept places k h = sym (take_mark k places (replicate 8192 0) ∙ ap (mark places) (take_replicate k 8192 h))
+
+-- a mark leaves as many
+pub mark_length : (places marks : List ℕ) → length (mark places marks) ≡ length marks
+unfolding mark
+mark_length [] marks = refl
+mark_length (at ∷ places) marks = mark_length places (set marks at 1) ∙ length-set marks at 1

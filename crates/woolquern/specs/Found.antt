@@ -15,9 +15,13 @@ pub record Program : Type 0 where
   pub words : List ℕ
   pub n : ℕ
 
--- the program that a text holds: its words are checked with n = 64
+-- the program that words are: they are checked with n = 64
+abbrev pub checked : List ℕ → Answer Program
+checked ws = as_answer (reader.program ws 64) (λ p. Gives (record { words = ws; n = used p }))
+
+-- the one that a text holds
 abbrev pub held : List ℕ → Answer Program
-held text = and_then (words_of text) (λ ws. as_answer (reader.program ws 64) (λ p. Gives (record { words = ws; n = used p })))
+held text = and_then (words_of text) checked
 
 abbrev pub program : code_program.Program → Program
 program p = record { words = p.words.now; n = p.n }

@@ -8,6 +8,7 @@ ghost use Rattle.std.specs.Prelude.{◌≡◌, ◌*◌, ◌≤◌, ◌<◌, leng
 ghost use Rattle.analysis.specs.Outcomes.{answer_by};
 ghost use Rattle.states.specs.States as states;
 ghost use Rattle.text.specs.Answers.{leaves, of_printed};
+ghost use Rattle.text.specs.Line.{printed};
 ghost use Rattle.woolquern.specs.Found as found;
 ghost use Rattle.woolquern.specs.Job as job;
 
@@ -30,28 +31,51 @@ fn zeros() -> Start
     }
 }
 
-// The program that a text holds. Its words go into the lent ones, of which there is to be one for every two bytes, or 8,192: a text has no more.
-#[tactic(auto, using(crate::proofs::Jobs::front_count, crate::proofs::Jobs::front_words), unfolding(words::specs::Words::checked))]
+// The program that words are.
+#[tactic(auto, unfolding(words::specs::Words::checked))]
+fn checked(words: &[u64]) -> Result<Program<'_>, Refusal>
+    ensures { answer_by found.program result ≡ found.checked words.now }
+{
+    let n = words::check(words, 64)?;
+    Ok(Program { words, n })
+}
+
+// The program that a text of no more bytes than allowed holds. Its words go into the lent ones, of which there is to be one for every two bytes, or 8,192: a text has no more.
+#[tactic(auto, using(crate::proofs::Jobs::front_count, crate::proofs::Jobs::front_words))]
 fn read<'a>(text: &[u8], words: &'a mut [u64]) -> Result<Program<'a>, Refusal>
-    requires { min (length text.now) 16384 ≤ 2 * length words.old }
+    requires short { length text.now ≤ 65536 }
+    requires room { min (length text.now) 16384 ≤ 2 * length words.old }
     ensures { answer_by found.program result ≡ found.held text.now }
 {
-    if 65536 < text.len() {
-        return Err(Fault::TooLong.at(0));
-    }
     let count = text::pass(text, words)?;
     if 8192 < count {
         return Err(Fault::TooLong.at(0));
     }
-    let words = &words[..count];
-    let n = words::check(words, 64)?;
-    Ok(Program { words, n })
+    checked(&words[..count])
+}
+
+// The same into as many words as a text may have.
+#[tactic(auto, using(crate::proofs::Ways::read_refused, crate::proofs::Ways::read_words))]
+fn read_whole<'a>(text: &[u8], words: &'a mut [u64; 8192]) -> Result<Program<'a>, Refusal>
+    ensures { answer_by found.program result ≡ found.held text.now }
+{
+    let count = text::read(text, words)?;
+    checked(&words[..count])
+}
+
+// Prints a refusal.
+fn refuse(refusal: Refusal, out: &mut [u8]) -> Option<usize>
+    ensures what_is_left { leaves (of_printed result) out.new ≡ printed (job.refusal refusal.number refusal.place) out.old }
+    ensures out_len_bound { result ≡ None → length out.old < 2048 }
+{
+    text::line(&Err(refusal), 0, out)
 }
 
 // Prints the line for a text, its words in the lent ones.
 #[tactic(auto, unfolding(paper::specs::Answers::ran))]
 fn run_with(text: &[u8], words: &mut [u64], out: &mut [u8]) -> Option<usize>
-    requires { min (length text.now) 16384 ≤ 2 * length words.old }
+    requires short { length text.now ≤ 65536 }
+    requires room { min (length text.now) 16384 ≤ 2 * length words.old }
     ensures what_is_left { leaves (of_printed result) out.new ≡ job.run text.now out.old }
     ensures out_len_bound { result ≡ None → length out.old < 2048 }
 {
@@ -60,8 +84,20 @@ fn run_with(text: &[u8], words: &mut [u64], out: &mut [u8]) -> Option<usize>
             let answer = analysis::analyse(words, n, &zeros(), 0);
             text::line(&answer, n, out)
         }
-        Err(refusal) => text::line(&Err(refusal), 0, out),
+        Err(refusal) => refuse(refusal, out),
     }
+}
+
+// The same with so many words of its own. It stays a function: only a call that takes this way is to pay for them, in time and stack.
+#[inline(never)]
+fn run_in<const N: usize>(text: &[u8], out: &mut [u8]) -> Option<usize>
+    requires few { N ≤ 8192 }
+    requires short { length text.now ≤ 65536 }
+    requires enough { min (length text.now) 16384 ≤ 2 * N }
+    ensures what_is_left { leaves (of_printed result) out.new ≡ job.run text.now out.old }
+    ensures out_len_bound { result ≡ None → length out.old < 2048 }
+{
+    run_with(text, &mut [0; N], out)
 }
 
 // Prints the line for a text: how many bytes, or none where the buffer is shorter, and then it is left as it was. 2,048 bytes are always enough.
@@ -70,9 +106,10 @@ pub fn run(text: &[u8], out: &mut [u8]) -> Option<usize>
     ensures out_len_bound { result ≡ None → length out.old < 2048 }
 {
     if text.len() <= 512 {
-        // A short text need not pay for clearing 8,192 words.
-        run_with(text, &mut [0; 256], out)
+        run_in::<256>(text, out)
+    } else if text.len() <= 65536 {
+        run_in::<8192>(text, out)
     } else {
-        run_with(text, &mut [0; 8192], out)
+        refuse(Fault::TooLong.at(0), out)
     }
 }

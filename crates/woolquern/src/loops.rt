@@ -20,7 +20,7 @@ fn looped(text: &[u8], unroll: usize, counts: usize, settled: usize) -> Result<L
     ensures { answer_by found.looped result ≡ job.loop_in text.now unroll counts settled }
 {
     let mut words = [0; 8192];
-    let Program { words, n } = crate::read(text, &mut words)?;
+    let Program { words, n } = crate::read_whole(text, &mut words)?;
     let found = analysis::analyse_loop(words, n, &crate::zeros(), unroll)?;
     if counts < 4 || settled < text::line_length(&Ok(found.settled), n) {
         return Err(Fault::TooLong.at(0));
@@ -51,6 +51,6 @@ pub fn run_loop(
             ]);
             Some(printed)
         }
-        Err(refusal) => text::line(&Err(refusal), 0, out),
+        Err(refusal) => crate::refuse(refusal, out),
     }
 }

@@ -23,7 +23,7 @@ fn marked(text: &[u8], room: usize) -> Result<Entered, Refusal>
     ensures bound { IfOk result (λ e. e.count ≤ min room 8192) }
 {
     let mut words = [0; 8192];
-    let Program { words, n } = crate::read(text, &mut words)?;
+    let Program { words, n } = crate::read_whole(text, &mut words)?;
     let found = analysis::analyse_marked(words, n, &crate::zeros(), 0)?;
     let count = words.len();
     if room < count {
@@ -40,9 +40,9 @@ pub fn run_marked(text: &[u8], marks: &mut [u8], out: &mut [u8]) -> Option<usize
     match marked(text, marks.len()) {
         Ok(Entered { n, count, found }) => {
             let printed = text::line(&Ok(found.state), n, out)?;
-            marks[..count].copy_from_slice(&found.marks[..count]);
+            text::put_bytes(marks, 0, &found.marks[..count]);
             Some(printed)
         }
-        Err(refusal) => text::line(&Err(refusal), 0, out),
+        Err(refusal) => crate::refuse(refusal, out),
     }
 }
