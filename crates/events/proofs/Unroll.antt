@@ -1,4 +1,4 @@
--- The sides of an event are the same under any unroll: what `sides` says of the caller's setting, it says of every unroll.
+-- The sides of an event are the same under any unroll.
 use mathlib.Core.Path.{◌≡◌, refl, ap, ◌∙◌}
 use Prim.Native.Nat.{ℕ, ◌+◌}
 use lib.ListN.{length}

@@ -54,7 +54,7 @@ fn read<'a>(text: &[u8], words: &'a mut [u64]) -> Result<Program<'a>, Refusal>
     checked(&words[..count])
 }
 
-// The same into as many words as a text may have.
+// The program that a text holds, its words read into as many as a text may have.
 #[tactic(auto, using(crate::proofs::Ways::read_refused, crate::proofs::Ways::read_words))]
 fn read_whole<'a>(text: &[u8], words: &'a mut [u64; 8192]) -> Result<Program<'a>, Refusal>
     ensures { answer_by found.program result ≡ found.held text.now }

@@ -23,18 +23,18 @@ pub intersection-sides-requires : goal.intersection-sides-requires
 intersection-sides-requires t c =
     let p = c.requires in
     let left = c.loop.invariant.left p.tree p.is in
-    let e = end_is p.tree p.is c.loop.counter c.loop.at c.event_end-end.result c.loop-test.true left c.event_end-end.ensures in
-    let f = next_ends p.tree p.is c.loop.counter c.loop.at c.event_end-end.result c.loop-test.true left c.event_end-end.ensures in
+    let long = end_is p.tree p.is c.loop.counter c.loop.at c.event_end-end.result c.loop-test.true left c.event_end-end.ensures in
+    let bounds = next_ends p.tree p.is c.loop.counter c.loop.at c.event_end-end.result c.loop-test.true left c.event_end-end.ensures in
     let is = c.cut.ensures.words_cut ∙ next_words p.tree p.is c.loop.counter c.loop.at c.event_end-end.result c.loop-test.true left c.event_end-end.ensures in
-    (omega (arith, ap (λ (l : List ℕ). length l) is, e, f.1, c.loop.invariant.begun), record { tree = next c.loop.counter p.tree; is = is; within = next_within c.loop.counter p.tree p.within (few p.tree p.is c.loop.counter c.loop.at c.loop-test.true left) })
+    (omega (arith, ap (λ (l : List ℕ). length l) is, long, bounds.1, c.loop.invariant.begun), record { tree = next c.loop.counter p.tree; is = is; within = next_within c.loop.counter p.tree p.within (few p.tree p.is c.loop.counter c.loop.at c.loop-test.true left) })
 
 pub intersection-loop-preserved : goal.intersection-loop-preserved
 intersection-loop-preserved t c =
     let p = c.requires in
-    let f = next_ends p.tree p.is c.loop.counter c.loop.at c.event_end-end.result c.loop-test.true (c.loop.invariant.left p.tree p.is) c.event_end-end.ensures in
+    let bounds = next_ends p.tree p.is c.loop.counter c.loop.at c.event_end-end.result c.loop-test.true (c.loop.invariant.left p.tree p.is) c.event_end-end.ensures in
     let joined : c.join-no.result ≡ states.join c.args.n c.loop.no c.in_ok-next.next.no = c.join-no.ensures in
     record {
-      begun = omega (arith, f.0);
+      begun = omega (arith, bounds.0);
       left = λ es h. next_left es h c.loop.counter c.loop.at c.event_end-end.result c.loop-test.true (c.loop.invariant.left es h) c.event_end-end.ensures;
       same = λ u es h.
           let left = c.loop.invariant.left es h in
