@@ -48,7 +48,8 @@ use Rattle.words.proofs.Unique.{code_injective}
 use Rattle.words.proofs.Exact.{sound_is_program, program_is_sound}
 use Rattle.analysis.specs.declared.Marked.{Marked}
 use Rattle.analysis.specs.declared.LoopAnswer.{LoopAnswer}
-use Rattle.analysis.specs.Outcomes.{answer_by, a_loop, looped}
+use Rattle.analysis.specs.Outcomes.{a_loop, looped}
+use Rattle.analysis.proofs.Says.{answered_good, looped_good}
 use Rattle.analysis.proofs.Entries.{too_long, too_wide, too_deep, let_in, analysed_unadmitted, analysed_bad, analysed_read}
 use Rattle.analysis.proofs.Entries.{begins_none, begins_other, begins_short, begins_unlike, begins_loop, looped_unbegun, looped_read}
 use Rattle.certainties.proofs.Numbers.{every_number}
@@ -61,13 +62,6 @@ use Rattle.certainties.specs.Certainties.{Input, Analyse, AnalyseMarked, Analyse
 pub back : {A : Type 0} (a : Answer A) → answer_of (outcome a) ≡ a
 back (Gives x) = refl
 back (Refuses number place) = refl
-
-answered_good : {A : Type 0} (a : Answer A) {s : A} → Ok s ≡ outcome a → a ≡ Gives s
-answered_good a e = sym (ap answer_of e ∙ back a)
-
-loop_back : (a : Answer Looped) → answer_by a_loop (looped a) ≡ a
-loop_back (Gives l) = refl
-loop_back (Refuses number place) = refl
 
 -- an answer with marks
 with_marks : List ℕ → Answer State → page.MarkedAnswer
@@ -247,7 +241,7 @@ ends_inside i s p σ τ e h run = let c = covers i s e in c.covers σ τ h (subs
 loop_certain : (i : Input) (l : LoopAnswer) → AnalyseLoop i (Ok l) → page.LoopCertain i l
 loop_certain i l e =
     let a = answers.looped i.words i.n i.start.cells i.unroll in
-    let c = certain.looped i.words i.n i.start.cells i.unroll (a_loop l) i.sixty_four (sym (ap (answer_by a_loop) e ∙ loop_back a)) in
+    let c = certain.looped i.words i.n i.start.cells i.unroll (a_loop l) i.sixty_four (looped_good a e) in
     record {
       program = c.program;
       unroll = c.unroll;

@@ -183,37 +183,43 @@ end_rule g at (suc k) none t over = refl
 end_rule g at zero (e also es) t over = absurd (omega arith)
 end_rule g at (suc k) (e also es) t over = end_rule g at k es t (omega arith)
 
--- what a turn over the next of them knows: where it stands, its words up to its end, and that the rules go on from there with its sides
-module _ {ws : List ℕ} (es : Events) (whole : ws ≡ conjunction es) (k at : ℕ) (more : k < get_or ws 0 0) (left : Begins ws at (code.events (after k es))) where
+-- what a turn over the next of them knows: where it ends, its words, what is left behind it, and that the rules go on from there with its sides
+pub record OneMore (ws : List ℕ) (es : Events) (k at end : ℕ) : Type 0 where
   pub few : k < code.count_events es
-  few = omega (arith, ap (λ (l : List ℕ). get_or l 0 0) whole)
+  pub long : end ≡ at + length (code.event (next k es))
+  pub some : at < end
+  pub ends : end ≤ length ws
+  pub words : slice_range ws at end ≡ code.event (next k es)
+  pub left : Begins ws end (code.events (after (k + 1) es))
+  pub on :
+      (g : rules.Setting) (base : ℕ) (t : rules.Sides) {z : Sides} → Ok z ≡ sided (rules.event g (base + at) (next k es) t.yes) →
+      rules.events g (base + at) (after k es) t ≡ rules.events g (base + end) (after (k + 1) es) (record { yes = z.yes; no = states.join g.n t.no z.no })
+
+module _ {ws : List ℕ} (es : Events) (whole : ws ≡ conjunction es) (k at : ℕ) (more : k < get_or ws 0 0) (left : Begins ws at (code.events (after k es))) where
+  more_of : k < code.count_events es
+  more_of = omega (arith, ap (λ (l : List ℕ). get_or l 0 0) whole)
 
   pub here : Begins ws at (code.event (next k es))
-  here = next_is k es few left
+  here = next_is k es more_of left
 
-module _ {ws : List ℕ} (es : Events) (whole : ws ≡ conjunction es) (k at end : ℕ) (more : k < get_or ws 0 0) (left : Begins ws at (code.events (after k es))) (ends : (e : Event) → Begins ws at (code.event e) → end ≡ at + length (code.event e)) where
-  stands : Begins ws at (code.event (next k es))
-  stands = here es whole k at more left
-
-  pub end_is : end ≡ at + length (code.event (next k es))
-  end_is = ends (next k es) stands
-
-  pub next_ends : (at < end) × (end ≤ length ws)
-  next_ends = (omega (arith, end_is, event_some (next k es)), omega (arith, end_is, begins_ends stands (event_some (next k es))))
-
-  pub next_words : slice_range ws at end ≡ code.event (next k es)
-  next_words = let long : end - at ≡ length (code.event (next k es)) = omega (arith, end_is) in rw long stands.taken
-
-  pub next_left : Begins ws end (code.events (after (k + 1) es))
-  next_left = after_is k es (few es whole k at more left) left end_is
-
-  module _ (g : rules.Setting) (base : ℕ) (t : rules.Sides) {z : Sides} (split : Ok z ≡ sided (rules.event g (base + at) (next k es) t.yes)) where
-    pub next_sides : rules.events g (base + at) (after k es) t ≡ rules.events g (base + end) (after (k + 1) es) (record { yes = z.yes; no = states.join g.n t.no z.no })
-    next_sides = let place : base + at + length (code.event (next k es)) ≡ base + end = omega (arith, end_is) in
-        next_rule g (base + at) k es t (few es whole k at more left) ∙ rw (gives (rules.event g (base + at) (next k es) t.yes) split, place) refl
-      where
-        gives : (a : Answer rules.Sides) → Ok z ≡ sided a → a ≡ Gives (record { yes = z.yes; no = z.no })
-        gives (Gives u) e = let same : z ≡ record { yes = u.yes; no = u.no } = cc in rw same refl
-        gives (Refuses number place) e = absurd cc
+  pub one_more : (end : ℕ) → ((e : Event) → Begins ws at (code.event e) → end ≡ at + length (code.event e)) → OneMore ws es k at end
+  one_more end is =
+      let long : end ≡ at + length (code.event (next k es)) = is (next k es) here in
+      let cut : end - at ≡ length (code.event (next k es)) = omega (arith, long) in
+      record {
+        few = more_of;
+        long = long;
+        some = omega (arith, long, event_some (next k es));
+        ends = omega (arith, long, begins_ends here (event_some (next k es)));
+        words = rw cut here.taken;
+        left = after_is k es more_of left long;
+        on = λ g base t {z} split.
+            let place : base + at + length (code.event (next k es)) ≡ base + end = omega (arith, long) in
+            next_rule g (base + at) k es t more_of ∙ rw (gives (rules.event g (base + at) (next k es) t.yes) split, place) refl;
+      }
+    where
+      gives : (a : Answer rules.Sides) {z : Sides} → Ok z ≡ sided a → a ≡ Gives (record { yes = z.yes; no = z.no })
+      gives (Gives u) {z} e = let same : z ≡ record { yes = u.yes; no = u.no } = cc in rw same refl
+      gives (Refuses number place) e = absurd cc
 
 pub ruleset of_events = (begins_ends, event_some, next_within, first_is, next_is, after_is, next_rule, end_rule)
