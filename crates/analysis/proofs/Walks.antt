@@ -82,18 +82,24 @@ pub record Going (g : Setting) (base : ℕ) (ws : List ℕ) (s₀ : State) (m₀
   pub rest : Statements
   pub is : Begins ws at (code.list rest)
   pub counts : i + code.count rest ≡ k
-  pub ends : at + length (code.list rest) ≡ length ws
   pub within : ListWithin g.n t → ListWithin g.n rest
   pub leads : Leads (noted.list g (base + 1) t s₀) m₀ (noted.list g (base + at) rest s) m
 
-pub going_first : (g : Setting) (base : ℕ) (ws : List ℕ) (s : State) (m : List ℕ) (t : Statements) → ws ≡ code.program t → Going g base ws s m t 0 (get_or ws 0 0) 1 s m
+-- and what is left ends where the words do
+pub record GoingToEnd (g : Setting) (base : ℕ) (ws : List ℕ) (s₀ : State) (m₀ : List ℕ) (t : Statements) (i k at : ℕ) (s : State) (m : List ℕ) : Type 0 where
+  pub going : Going g base ws s₀ m₀ t i k at s m
+  pub ends : at + length (code.list going.rest) ≡ length ws
+
+pub going_first : (g : Setting) (base : ℕ) (ws : List ℕ) (s : State) (m : List ℕ) (t : Statements) → ws ≡ code.program t → GoingToEnd g base ws s m t 0 (get_or ws 0 0) 1 s m
 going_first g base ws s m t e = record {
-  rest = t;
-  is = begins_tail (begins_whole e);
-  counts = let q = ap (λ (l : List ℕ). get_or l 0 0) e in omega arith;
+  going = record {
+    rest = t;
+    is = begins_tail (begins_whole e);
+    counts = let q = ap (λ (l : List ℕ). get_or l 0 0) e in omega arith;
+    within = λ w. w;
+    leads = leads_self;
+  };
   ends = let q = ap length e in omega arith;
-  within = λ w. w;
-  leads = leads_self;
 }
 
 module _ {g : Setting} {base : ℕ} {ws : List ℕ} {s₀ : State} {m₀ : List ℕ} {t : Statements} {i k at : ℕ} {s : State} {m : List ℕ} (G : Going g base ws s₀ m₀ t i k at s m) where
@@ -110,7 +116,7 @@ module _ {g : Setting} {base : ℕ} {ws : List ℕ} {s₀ : State} {m₀ : List 
     pub going_at : StatementAt ws at
     going_at = record { tree = going_next.head; is = going_next.head_is }
 
-    from_next : {a : Answer State} {m₁ : List ℕ} → Says (noted.list g (base + at) (going_next.head then going_next.tail) s) a m m₁ → Says (noted.list g (base + 1) t s₀) a m₀ m₁
+    pub from_next : {a : Answer State} {m₁ : List ℕ} → Says (noted.list g (base + at) (going_next.head then going_next.tail) s) a m m₁ → Says (noted.list g (base + 1) t s₀) a m₀ m₁
     from_next {a} {m₁} h = G.leads.on (subst (λ (x : Statements). Says (noted.list g (base + at) x s) a m m₁) (sym going_next.same) h)
 
     -- the part that it is
@@ -127,18 +133,17 @@ module _ {g : Setting} {base : ℕ} {ws : List ℕ} {s₀ : State} {m₀ : List 
           (omega (arith, statement_some going_next.head), omega (arith, statement_ends going_next.head going_next.head_is))
 
       module _ {spot : ℕ} (moved : spot ≡ base + at) {m₁ : List ℕ} where
-        here : {a : Answer State} → Says (noted.statement g spot going_next.head s) a m m₁ → Says (noted.statement g (base + at) going_next.head s) a m m₁
+        pub here : {a : Answer State} → Says (noted.statement g spot going_next.head s) a m m₁ → Says (noted.statement g (base + at) going_next.head s) a m m₁
         here {a} q = subst (λ (p : ℕ). Says (noted.statement g p going_next.head s) a m m₁) moved q
 
         pub going_refused : {number place : ℕ} → Says (noted.statement g spot going_next.head s) (Refuses number place) m m₁ → Says (noted.list g (base + 1) t s₀) (Refuses number place) m₀ m₁
         going_refused q = from_next (list_refused g (base + at) going_next.head going_next.tail s (here q))
 
-        pub going_on : {s₁ : State} → Says (noted.statement g spot going_next.head s) (Gives s₁) m m₁ → Going g base ws s₀ m₀ t (i + 1) k (at + length words) s₁ m₁
+        unfoldable pub going_on : {s₁ : State} → Says (noted.statement g spot going_next.head s) (Gives s₁) m m₁ → Going g base ws s₀ m₀ t (i + 1) k (at + length words) s₁ m₁
         going_on {s₁} q = record {
           rest = going_next.tail;
           is = begins_at (let l = ap length next_words in let e : at + length (code.statement going_next.head) ≡ at + length words = omega arith in e) going_next.tail_is;
           counts = omega (arith, G.counts, going_next.counts);
-          ends = let l = ap length next_words in omega (arith, G.ends, going_next.size);
           within = λ w. (next_bounds going_next.same (G.within w)).1;
           leads = record {
             on = λ {a} {m'} h. from_next ((list_on g (base + at) going_next.head going_next.tail s (here q)).on
@@ -146,6 +151,13 @@ module _ {g : Setting} {base : ℕ} {ws : List ℕ} {s₀ : State} {m₀ : List 
                 (let l = ap length next_words in let e : base + (at + length words) ≡ base + at + length (code.statement going_next.head) = omega arith in e) h));
           };
         }
+
+module _ {g : Setting} {base : ℕ} {ws : List ℕ} {s₀ : State} {m₀ : List ℕ} {t : Statements} {i k at : ℕ} {s : State} {m : List ℕ} (G : GoingToEnd g base ws s₀ m₀ t i k at s m) (some : i < k) where
+  module _ {words : List ℕ} (cut : (c : Statement) → Begins ws at (code.statement c) → words ≡ code.statement c) {spot : ℕ} (moved : spot ≡ base + at) {m₁ : List ℕ} where
+    -- one statement further it still does
+    pub on_to_end : {s₁ : State} → Says (noted.statement g spot (going_next G.going some).head s) (Gives s₁) m m₁ → GoingToEnd g base ws s₀ m₀ t (i + 1) k (at + length words) s₁ m₁
+    unfolding going_on
+    on_to_end q = record { going = going_on G.going some cut moved q; ends = let l = ap length (next_words G.going some cut) in omega (arith, G.ends, (going_next G.going some).size) }
 
 -- ---- an if
 

@@ -11,7 +11,7 @@ use Rattle.analysis.proofs.Given.{normalize_whole, none_given, some_given, nothi
 use Rattle.analysis.proofs.Kind.{statement_filled, kind_known, plain_word}
 use Rattle.analysis.proofs.Says.{leads_then, stopped}
 use Rattle.analysis.proofs.Turns.{search_refused, search_found, search_on, search_none, unrolled_refused, unrolled_on, unrolled_none, growing_refused, growing_settled, growing_on, growing_none, joining_refused, joining_settled, joining_on, widening_refused, widening_on, Unrested, unrested_some, unrested_none, loop_by, loop_unsearched, loop_searched, loop_rests, loop_unturned, loop_turned, loop_unsettled, loop_unleft, loop_ends, while_refused, while_on}
-use Rattle.analysis.proofs.Walks.{entered_so, entered_block, plain_says, going_last, going_at, going_next, next_words, next_is, next_room, going_refused, going_on, if_unsplit, if_then_refused, if_else_refused, if_joined, says_fail, pass_refused, loop_event}
+use Rattle.analysis.proofs.Walks.{entered_so, entered_block, plain_says, going_last, going_at, going_next, next_words, next_is, next_room, going_refused, going_first, on_to_end, if_unsplit, if_then_refused, if_else_refused, if_joined, says_fail, pass_refused, loop_event}
 use Rattle.analysis.proofs.walk.+walk.Goals as goal
 use Rattle.analysis.proofs.walk.+walk.Goals.{block-then-is_live, block-else-is_live, looped-in-Some-2, looped-in-None}
 
@@ -62,13 +62,16 @@ pass-returns-in_err-sides t c = λ at e b k.
 
 -- a list: the next statement of what is left stands at `at`
 
+pub list-loop-init : goal.list-loop-init
+list-loop-init t c = record { after = omega arith; going = going_first (setting_of c.args.setting) c.args.part.base c.args.part.words.now c.args.state.now c.args.marks.now }
+
 pub list-statement_at-next-requires : goal.list-statement_at-next-requires
-list-statement_at-next-requires t c = let p = c.requires.list_is in going_at (c.loop.invariant.going p.tree p.is) c.loop-test.true
+list-statement_at-next-requires t c = let p = c.requires.list_is in going_at (c.loop.invariant.going p.tree p.is).going c.loop-test.true
 
 pub list-statement-requires : goal.list-statement-requires
 list-statement-requires t c =
     let p = c.requires.list_is in
-    let G = c.loop.invariant.going p.tree p.is in
+    let G = (c.loop.invariant.going p.tree p.is).going in
     let k = next_room G c.loop-test.true c.statement_at-next.ensures.words in
     let after = c.loop.invariant.after in
     let moved = c.statement_at-next.ensures.base in
@@ -76,7 +79,7 @@ list-statement-requires t c =
 
 pub list-returns-in_err-statement : goal.list-returns-in_err-statement
 list-returns-in_err-statement t c = λ d h.
-    let G = c.loop.invariant.going d h in
+    let G = (c.loop.invariant.going d h).going in
     let some = c.loop-test.true in
     stopped _ c.from_residual.result c.from_residual.ensures.1
     (going_refused G some c.statement_at-next.ensures.words c.statement_at-next.ensures.base (c.in_err-statement.ensures (going_next G some).head (next_words G some c.statement_at-next.ensures.words)))
@@ -87,11 +90,11 @@ list-loop-preserved t c = record {
   going = λ d h.
       let G = c.loop.invariant.going d h in
       let some = c.loop-test.true in
-      going_on G some c.statement_at-next.ensures.words c.statement_at-next.ensures.base (c.in_ok-statement.ensures (going_next G some).head (next_words G some c.statement_at-next.ensures.words));
+      on_to_end G some c.statement_at-next.ensures.words c.statement_at-next.ensures.base (c.in_ok-statement.ensures (going_next G.going some).head (next_words G.going some c.statement_at-next.ensures.words));
 }
 
 pub list-returns : goal.list-returns
-list-returns t c = λ d h. going_last (c.loop.invariant.going d h) c.loop-test.false
+list-returns t c = λ d h. going_last (c.loop.invariant.going d h).going c.loop-test.false
 
 -- growing: one pass further, or none left
 

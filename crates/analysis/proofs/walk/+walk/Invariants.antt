@@ -9,7 +9,7 @@ use Rattle.analysis.specs.Noted as noted
 use Rattle.analysis.specs.Noted.{setting_of}
 use Rattle.analysis.specs.Parts.{LoopAt}
 use Rattle.analysis.proofs.Says.{Leads}
-use Rattle.analysis.proofs.Walks.{Going}
+use Rattle.analysis.proofs.Walks.{GoingToEnd}
 use Rattle.analysis.proofs.walk.+walk.Given as goal
 
 abbrev pub decreases-list : goal.decreases-list
@@ -51,7 +51,7 @@ decreases-statement l = 8 * length l.part.words.now + 7
 abbrev pub invariant-list-loop : goal.invariant-list-loop
 invariant-list-loop l = record {
   after : 0 < l.at;
-  going : (t : Statements) → l.part.words.now ≡ code.program t → Going (setting_of l.setting) l.part.base l.part.words.now l.fn.state l.fn.marks t l.counter l.end l.at l.state l.marks;
+  going : (t : Statements) → l.part.words.now ≡ code.program t → GoingToEnd (setting_of l.setting) l.part.base l.part.words.now l.fn.state l.fn.marks t l.counter l.end l.at l.state l.marks;
 }
 
 abbrev pub invariant-search-loop-i : goal.invariant-search-loop-i
