@@ -85,7 +85,7 @@ pub record Going (g : Setting) (base : ℕ) (ws : List ℕ) (s₀ : State) (m₀
   pub within : ListWithin g.n t → ListWithin g.n rest
   pub leads : Leads (noted.list g (base + 1) t s₀) m₀ (noted.list g (base + at) rest s) m
 
--- and what is left ends where the words do
+-- the same, and what is left ends where the words do
 pub record GoingToEnd (g : Setting) (base : ℕ) (ws : List ℕ) (s₀ : State) (m₀ : List ℕ) (t : Statements) (i k at : ℕ) (s : State) (m : List ℕ) : Type 0 where
   pub going : Going g base ws s₀ m₀ t i k at s m
   pub ends : at + length (code.list going.rest) ≡ length ws
@@ -152,12 +152,11 @@ module _ {g : Setting} {base : ℕ} {ws : List ℕ} {s₀ : State} {m₀ : List 
           };
         }
 
-module _ {g : Setting} {base : ℕ} {ws : List ℕ} {s₀ : State} {m₀ : List ℕ} {t : Statements} {i k at : ℕ} {s : State} {m : List ℕ} (G : GoingToEnd g base ws s₀ m₀ t i k at s m) (some : i < k) where
-  module _ {words : List ℕ} (cut : (c : Statement) → Begins ws at (code.statement c) → words ≡ code.statement c) {spot : ℕ} (moved : spot ≡ base + at) {m₁ : List ℕ} where
-    -- one statement further it still does
-    pub on_to_end : {s₁ : State} → Says (noted.statement g spot (going_next G.going some).head s) (Gives s₁) m m₁ → GoingToEnd g base ws s₀ m₀ t (i + 1) k (at + length words) s₁ m₁
-    unfolding going_on
-    on_to_end q = record { going = going_on G.going some cut moved q; ends = let l = ap length (next_words G.going some cut) in omega (arith, G.ends, (going_next G.going some).size) }
+        -- and what ended where the words do still does
+        pub on_to_end : {s₁ : State} → Says (noted.statement g spot going_next.head s) (Gives s₁) m m₁ → at + length (code.list G.rest) ≡ length ws →
+            GoingToEnd g base ws s₀ m₀ t (i + 1) k (at + length words) s₁ m₁
+        unfolding going_on
+        on_to_end q ends = record { going = going_on q; ends = let l = ap length next_words in omega (arith, ends, going_next.size) }
 
 -- ---- an if
 

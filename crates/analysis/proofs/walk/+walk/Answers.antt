@@ -90,7 +90,7 @@ list-loop-preserved t c = record {
   going = λ d h.
       let G = c.loop.invariant.going d h in
       let some = c.loop-test.true in
-      on_to_end G some c.statement_at-next.ensures.words c.statement_at-next.ensures.base (c.in_ok-statement.ensures (going_next G.going some).head (next_words G.going some c.statement_at-next.ensures.words));
+      on_to_end G.going some c.statement_at-next.ensures.words c.statement_at-next.ensures.base (c.in_ok-statement.ensures (going_next G.going some).head (next_words G.going some c.statement_at-next.ensures.words)) G.ends;
 }
 
 pub list-returns : goal.list-returns
